@@ -1,14 +1,14 @@
 -- Images that are asked for: those of a moment on which no reply is.
 use Rattle.std.proofs.Common.{◌≡◌, ◌⊎◌, ℕ, zero, suc, ◌+◌, ◌<◌, ◌≤◌, inl, inr, List, [], ◌∷◌, length, map, take, refl, sym, ap, subst, ◌∙◌, arith}
-use Rattle.std.specs.Prelude.{slice_index}
+use Rattle.std.specs.Prelude.{All, slice_index}
 use Rattle.std.specs.List.{AllByRecursion, Contains}
 use Rattle.std.proofs.lemmas.Bool.Decides.{nat_tests}
 use Rattle.std.proofs.lemmas.List.{get_or_past}
 use Rattle.std.proofs.lemmas.List.Elements.{All-take}
 use Rattle.crash_image.proofs.Queries.{line_at_moment}
-use Rattle.crash_image.proofs.Stored.{AreBelow, below_history}
+use Rattle.crash_image.proofs.Stored.{AreBelow, below_history, cut_below}
 use Rattle.crash_image.proofs.Telling.{named_once, told_names}
-use Rattle.crash_image.specs.Named.{IsNameOf}
+use Rattle.crash_image.specs.Named.{IsNameOf, IsNamed}
 use Rattle.crash_image.specs.View.{HasLines, NamesLine}
 use Rattle.image_check.specs.Verdicts.{whole_line}
 use Rattle.line_memory.specs.Lines.{line_at}
@@ -20,6 +20,7 @@ use Rattle.store_trace.proofs.Bounds.{floor_le_stores}
 use Rattle.store_trace.proofs.Images.{image_from_lines, image_line, length_image}
 use Rattle.store_trace.proofs.Lines.{within_from_cut}
 use Rattle.store_trace.proofs.Members.{contains_first, contains_later}
+use Rattle.store_trace.proofs.Radix.{cut_of_number, cuts_at}
 use Rattle.store_trace.specs.Cut.{IsCut, IsWithin, number_in}
 use Rattle.store_trace.specs.Floor.{floor}
 use Rattle.store_trace.specs.History.{at_moment, history}
@@ -29,6 +30,7 @@ use Rattle.store_trace.specs.declared.crash_model.step.PersistenceStep.{Persiste
 use Rattle.store_trace.specs.declared.crash_model.step.PersistenceStep.TheVariants as step
 use Rattle.store_trace.specs.declared.event.Event.{Event}
 use Rattle.text.specs.declared.image_name.name.ImageName.{ImageName}
+use Rattle.text.specs.declared.image_name.name.ImageName.TheVariants.{Number, Cut}
 use Rattle.verdict.proofs.CutLines.{stores_at_moment}
 use Rattle.verdict.specs.CutImages.{image_at}
 
@@ -41,6 +43,16 @@ moment_image start events m numbers k same within =
     (λ l there. image_line start k (at_moment events m) l [] [] there
     ∙ sym (line_at_moment (line_at start l) l (k l) m events (within l))
     ∙ ap (λ (n : ℕ). line_after (line_at start l) l n (history events)) (sym (same l there)))
+
+-- a line that the index gives is that of the image
+pub known_line : (start medium : List (List ℕ)) (events : List Event) (numbers : List ℕ) (line number : ℕ) (bytes : List ℕ) → start ≡ medium → line < length medium →
+    number ≡ slice_index numbers line → bytes ≡ line_after (line_at start line) line number (history events) →
+    bytes ≡ line_at (known_image medium events numbers) line
+known_line start medium events numbers line number bytes s there n b =
+    b
+    ∙ ap (λ (lines : List (List ℕ)). line_after (line_at lines line) line number (history events)) s
+    ∙ ap (λ (k : ℕ). line_after (line_at medium line) line k (history events)) n
+    ∙ sym (image_line medium (λ l. slice_index numbers l) (history events) line [] [] there)
 
 -- the numbers of a moment's image are ones of all stores
 pub numbers_in : (start : List (List ℕ)) (events : List Event) (m : ℕ) (numbers : List ℕ) → AreNumbersAt start events m numbers → AreNumbersIn start events numbers
@@ -71,6 +83,16 @@ asked_named start events replies m name cut numbers there is told none are =
       none_known = subst (λ (medium : List (List ℕ)). HasNoneOn start events replies medium)
           (moment_image start events m numbers (number_in cut) (λ l less. same l) within.high) none;
     }
+
+-- a name is that of a cut, whose lines are there
+pub cut_of_name : (p : List PersistenceStep) (name : ImageName) (cut : List (ℕ × ℕ)) → IsNamed p name cut → IsCut p cut
+cut_of_name p (Number n) cut is = subst (λ (c : List (ℕ × ℕ)). IsCut p c) (sym (is.2 ∙ cuts_at p n is.1)) (cut_of_number p n is.1)
+cut_of_name p (Cut lines) cut is = is.0
+
+pub named_below : (start : List (List ℕ)) (events : List Event) (m : ℕ) (name : ImageName) (cut : List (ℕ × ℕ)) → HasLines start events →
+    IsNamed (at_moment events m) name cut → All (λ (entry : ℕ × ℕ). entry.0 < length start) cut
+named_below start events m name cut named is =
+    cut_below (length start) (take m events) cut (All-take (NamesLine (length start)) m events named) (cut_of_name (at_moment events m) name cut is)
 
 -- a line past the medium has no store
 none_past : (count l : ℕ) (p : List PersistenceStep) → AreBelow count p → count ≤ l → stores l p ≡ 0
