@@ -47,8 +47,7 @@ listed_more first old new lines at line less is before adds l =
     let later : Contains (take at lines) l → Contains (take (at + 1) lines) l =
     λ there. subst (λ (ls : List ℕ). Contains ls l) (sym more) (Contains-append_left (take at lines) (x ∷ []) l there) in
     let here : (l ≡ line) → Contains (take (at + 1) lines) l =
-    λ e. subst (λ (ls : List ℕ). Contains ls l) (sym more) (subst (λ (n : ℕ). Contains (take at lines ++ (x ∷ [])) n) (sym (e ∙ is)) (Contains-push (take at lines) x)) in
-    (
+    λ e. subst (λ (ls : List ℕ). Contains ls l) (sym more) (subst (λ (n : ℕ). Contains (take at lines ++ (x ∷ [])) n) (sym (e ∙ is)) (Contains-push (take at lines) x)) in (
       λ there. elim ((adds l).0 there) [
         | inl known ↦ elim ((before l).0 known) [ inl one ↦ inl one | inr taken ↦ inr (later taken) ]
         | inr e ↦ inr (here e)

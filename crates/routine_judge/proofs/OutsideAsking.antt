@@ -22,7 +22,6 @@ use Rattle.store_trace.proofs.Lines.{within_from_cut}
 use Rattle.store_trace.proofs.Members.{contains_first, contains_later}
 use Rattle.store_trace.proofs.Radix.{cut_of_number, cuts_at}
 use Rattle.store_trace.specs.Cut.{IsCut, IsWithin, number_in}
-use Rattle.store_trace.specs.Floor.{floor}
 use Rattle.store_trace.specs.History.{at_moment, history}
 use Rattle.store_trace.specs.Image.{line_after}
 use Rattle.store_trace.specs.Stores.{stores}
@@ -33,6 +32,13 @@ use Rattle.text.specs.declared.image_name.name.ImageName.{ImageName}
 use Rattle.text.specs.declared.image_name.name.ImageName.TheVariants.{Number, Cut}
 use Rattle.verdict.proofs.CutLines.{stores_at_moment}
 use Rattle.verdict.specs.CutImages.{image_at}
+
+-- what holds by the starting lines, the events and a moment holds by those that are the same
+pub carried : (Holds : List (List ℕ) → List Event → ℕ → Type 0) (start other : List (List ℕ)) (events more : List Event) (m n : ℕ) → start ≡ other → events ≡ more →
+    m ≡ n → Holds start events m → Holds other more n
+carried Holds start other events more m n s e i h =
+    subst (λ (x : ℕ). Holds other more x) i
+    (subst (λ (x : List Event). Holds other x m) e (subst (λ (x : List (List ℕ)). Holds x events m) s h))
 
 -- the image of a moment's cut is the image in which each line has so many of all its stores
 pub moment_image : (start : List (List ℕ)) (events : List Event) (m : ℕ) (numbers : List ℕ) (k : ℕ → ℕ) →

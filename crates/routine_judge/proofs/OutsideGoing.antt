@@ -119,9 +119,13 @@ pub going_unanswered : {A F : Type 0} (gives : A → WantedView → ReplyView �
     (events : List Event) (first end : ℕ) (old : A) (next m : ℕ) (numbers : List ℕ) (replies : Replies) (now after : A) (fault : OutsideFault F) →
     IsGoing gives start events first end old next replies now → IsAskedFor start events replies.known.items m numbers →
     IsUnanswered gives fails start events m numbers now after fault → IsStopped gives fails start events old after fault
-going_unanswered gives fails start events first end old next m numbers replies now after (Judge fault) is wanted failed =
-    (failed.0, (replies.known.items ++ (record { numbers = numbers; reply = failed.1.0 } ∷ []),
-    HasAsked.more replies.known.items m numbers failed.1.0 now after is.asked wanted failed.1.1))
+going_unanswered gives fails start events first end old next m numbers replies now after (Judge fault) is wanted failed = (
+  failed.0,
+  (
+    replies.known.items ++ (record { numbers = numbers; reply = failed.1.0 } ∷ []),
+    HasAsked.more replies.known.items m numbers failed.1.0 now after is.asked wanted failed.1.1,
+  ),
+)
 going_unanswered gives fails start events first end old next m numbers replies now after (Answer fault) is wanted failed = record {
   replies = replies.known.items;
   before = now;
@@ -151,12 +155,15 @@ going_failed gives start events first end old next replies now verdict is not ba
     record {
       replies = replies.known.items;
       asked = is.asked;
-      found_is = λ recovery gave. (bad, record {
-        from = is.from;
-        there = omega (arith, within, not);
-        passed = is.passed recovery gave;
-        here = here recovery gave;
-      });
+      found_is = λ recovery gave. (
+        bad,
+        record {
+          from = is.from;
+          there = omega (arith, within, not);
+          passed = is.passed recovery gave;
+          here = here recovery gave;
+        },
+      );
     }
 
 row_from : (judged : ℕ → MomentVerdict OutsideCause → Type 0) (events : List Event) (first : ℕ) (last : Option ℕ) (from end : ℕ) (row : Verdict OutsideCause) →

@@ -133,9 +133,11 @@ said_judged : (recovery : Outside) (start : List (List ℕ)) (events : List Even
 said_judged recovery start events replies window m right moments.Pass other gave ok v said =
     let found : (ℕ → ℕ) → Option OutsideCause → Type 0 = λ k. IsFoundOn recovery start events window m (image_at start events m k) in
     subst (λ (w : MomentVerdict OutsideCause). IsMomentVerdict true (has_same_bytes (image_at start events m)) (asks_all replies.lines.items) found (at_moment events m) w)
-    (sym said)
-    (v.0, λ cut is. sought_means recovery start events replies.known.items window m right gave ok (image_at start events m (number_in cut))
-    (length_image start (number_in cut) (at_moment events m)) None (v.1 cut is))
+    (sym said) (
+      v.0,
+      λ cut is. sought_means recovery start events replies.known.items window m right gave ok (image_at start events m (number_in cut))
+          (length_image start (number_in cut) (at_moment events m)) None (v.1 cut is),
+    )
 said_judged recovery start events replies window m right (moments.Fail name cause false) other gave ok v said =
     let found : (ℕ → ℕ) → Option OutsideCause → Type 0 = λ k. IsFoundOn recovery start events window m (image_at start events m k) in
     let means = λ (k : ℕ → ℕ) (f : Option Sought) (s : IsSoughtOn start events replies.known.items right.answers.answers.items (image_at start events m k) f).

@@ -91,11 +91,7 @@ impl<'a> OutsideRun<'a> {
         Ok(run)
     }
 
-    fn of(
-        alloc: Global,
-        medium: &'a Medium,
-        trace: &'a Trace,
-    ) -> Result<OutsideRun<'a>, AllocError>
+    fn of(alloc: Global, medium: &'a Medium, trace: &'a Trace) -> Result<OutsideRun<'a>, AllocError>
         requires lines { HasLines medium.now trace.now.events }
         requires sound { AreSound Never trace.now.events (length trace.now.events) }
         ensures { IfOk result (λ run. run ≡ record { start = medium.now; events = trace.now.events }) }

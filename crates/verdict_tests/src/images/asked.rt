@@ -162,10 +162,20 @@ fn lines_below(alloc: Global, count: u32) -> Result<Vec<u32>, AllocError>
 /// What comes of judging; a bad image by its number.
 #[derive(Clone, Copy, Debug, PartialEq, Eq)]
 enum Told {
-    Pass { moments: u64, images: Option<u64> },
-    Different { moment: u32, image: u32 },
+    Pass {
+        moments: u64,
+        images: Option<u64>,
+    },
+    Different {
+        moment: u32,
+        image: u32,
+    },
     /// With the length of the word for why there is no answer.
-    Missing { moment: u32, image: u32, word: usize },
+    Missing {
+        moment: u32,
+        image: u32,
+        word: usize,
+    },
     Fault(JudgeFault),
     NoReply(Refusal),
     Other,
@@ -177,12 +187,14 @@ fn told(found: &Result<Verdict<OutsideCause>, OutsideFault<Refusal>>) -> Told {
             moments: *moments,
             images: *images,
         },
-        Ok(Verdict::Fail {
-            moment,
-            image: ImageName::Number(image),
-            cause,
-            of_too_many: false,
-        }) => told_cause(*moment, *image, cause),
+        Ok(
+            Verdict::Fail {
+                moment,
+                image: ImageName::Number(image),
+                cause,
+                of_too_many: false,
+            },
+        ) => told_cause(*moment, *image, cause),
         Ok(_) => Told::Other,
         Err(OutsideFault::Judge(fault)) => Told::Fault(*fault),
         Err(OutsideFault::Answer(refusal)) => Told::NoReply(*refusal),
@@ -327,10 +339,12 @@ fn keeps_its_parts(alloc: Global) -> Result<bool, AllocError> {
     let reply = Reply::new(Ok(answer), lines);
     let word = Vec::from_slice(alloc, b"none")?;
     let other = Reply::new(Err(word), Vec::new(alloc));
-    Ok(has_answer(&reply, &[7, 8])
-        && reply.lines() == [3, 1].as_slice()
-        && has_word(&other, b"none")
-        && other.lines().is_empty())
+    Ok(
+        has_answer(&reply, &[7, 8])
+            && reply.lines() == [3, 1].as_slice()
+            && has_word(&other, b"none")
+            && other.lines().is_empty(),
+    )
 }
 
 fn has_answer(reply: &Reply, answer: &[u8]) -> bool {
