@@ -2,7 +2,7 @@
 use Rattle.std.proofs.Common.{◌≡◌, ◌⊎◌, ℕ, ◌+◌, ◌<◌, ◌≤◌, ◌==◌, ◌||◌, Bool, true, false, inl, inr, List, [], ◌∷◌, ◌++◌, length, get_or, take, refl, sym, ap, subst, ◌∙◌, arith}
 use Rattle.std.specs.Prelude.{◌↔◌}
 use Rattle.std.specs.List.{Contains}
-use Rattle.std.proofs.lemmas.List.{take_more}
+use Rattle.std.proofs.lemmas.List.{take_all, take_more}
 use Rattle.std.proofs.lemmas.List.Elements.{Contains-append_left, Contains-get_or, Contains-push, Contains-push_cases}
 use Rattle.line_memory.specs.Lines.{line_at}
 use Rattle.routine_judge.specs.Outside.{AgreesWith, AreNamed, HasNoneOn}
@@ -34,18 +34,36 @@ agrees_more start events numbers medium lines at line less is same are l there =
   | inr e ↦ subst (λ (n : ℕ). line_at medium n ≡ line_at (known_image start events numbers) n) (is ∙ e) same
 ]
 
--- a line that the reply names is there, and has a number
-pub line_there : (start : List (List ℕ)) (events : List Event) (known : KnownView) (lines : List ℕ) (at : ℕ) → IsKnownIn start events known →
-    lines ≡ known.reply.lines → at < length lines → get_or lines at 0 < length start
-line_there start events known lines at is same less =
-    is.there (get_or lines at 0) (subst (λ (ls : List ℕ). Contains ls (get_or lines at 0)) same (Contains-get_or lines at 0 less))
+-- lines that are listed one by one
+pub listed_none : (first lines : List ℕ) (l : ℕ) → Contains first l ↔ (Contains first l ⊎ Contains (take 0 lines) l)
+listed_none first lines l = (λ there. inl there, λ there. elim there [ inl old ↦ old | inr none ↦ absurd (no_members l none) ])
 
-pub number_there : (start : List (List ℕ)) (events : List Event) (known : KnownView) (lines : List ℕ) (at : ℕ) → IsKnownIn start events known →
-    lines ≡ known.reply.lines → at < length lines → get_or lines at 0 < length known.numbers
-number_there start events known lines at is same less =
-    let there = line_there start events known lines at is same less in
-    let size = is.numbers.size in
-    omega (arith, there, size)
+pub listed_more : (first old new lines : List ℕ) (at line : ℕ) → at < length lines → line ≡ get_or lines at 0 →
+    ((l : ℕ) → Contains old l ↔ (Contains first l ⊎ Contains (take at lines) l)) → ((l : ℕ) → Contains new l ↔ (Contains old l ⊎ (l ≡ line))) →
+    (l : ℕ) → Contains new l ↔ (Contains first l ⊎ Contains (take (at + 1) lines) l)
+listed_more first old new lines at line less is before adds l =
+    let x : ℕ = get_or lines at 0 in
+    let more : take (at + 1) lines ≡ take at lines ++ (x ∷ []) = take_more lines at 0 less in
+    let later : Contains (take at lines) l → Contains (take (at + 1) lines) l =
+    λ there. subst (λ (ls : List ℕ). Contains ls l) (sym more) (Contains-append_left (take at lines) (x ∷ []) l there) in
+    let here : (l ≡ line) → Contains (take (at + 1) lines) l =
+    λ e. subst (λ (ls : List ℕ). Contains ls l) (sym more) (subst (λ (n : ℕ). Contains (take at lines ++ (x ∷ [])) n) (sym (e ∙ is)) (Contains-push (take at lines) x)) in (
+      λ there. elim ((adds l).0 there) [
+        | inl known ↦ elim ((before l).0 known) [ inl one ↦ inl one | inr taken ↦ inr (later taken) ]
+        | inr e ↦ inr (here e)
+      ],
+      λ there. elim there [
+        | inl one ↦ (adds l).1 (inl ((before l).1 (inl one)))
+        | inr taken ↦ elim (taken_more lines at 0 l less taken) [
+          | inl known ↦ (adds l).1 (inl ((before l).1 (inr known)))
+          | inr e ↦ (adds l).1 (inr (sym (is ∙ e)))
+        ]
+      ],
+    )
+
+pub listed_all : (first now lines : List ℕ) (at : ℕ) → length lines ≤ at → ((l : ℕ) → Contains now l ↔ (Contains first l ⊎ Contains (take at lines) l)) →
+    (l : ℕ) → Contains now l ↔ (Contains first l ⊎ Contains lines l)
+listed_all first now lines at past are l = subst (λ (ls : List ℕ). Contains now l ↔ (Contains first l ⊎ Contains ls l)) (take_all at lines past) (are l)
 
 -- none of these replies is one on the medium
 pub none_yet : (start : List (List ℕ)) (events : List Event) (medium : List (List ℕ)) (replies : List KnownView) → HasNoneOn start events (take 0 replies) medium

@@ -118,8 +118,14 @@ going_answered gives start events first end old next m numbers replies more now 
 pub going_unanswered : {A F : Type 0} (gives : A → WantedView → ReplyView → A → Type 0) (fails : A → WantedView → F → A → Type 0) (start : List (List ℕ))
     (events : List Event) (first end : ℕ) (old : A) (next m : ℕ) (numbers : List ℕ) (replies : Replies) (now after : A) (fault : OutsideFault F) →
     IsGoing gives start events first end old next replies now → IsAskedFor start events replies.known.items m numbers →
-    IsUnanswered fails start events m numbers now after fault → IsStopped gives fails start events old after fault
-going_unanswered gives fails start events first end old next m numbers replies now after (Judge fault) is wanted failed = failed
+    IsUnanswered gives fails start events m numbers now after fault → IsStopped gives fails start events old after fault
+going_unanswered gives fails start events first end old next m numbers replies now after (Judge fault) is wanted failed = (
+  failed.0,
+  (
+    replies.known.items ++ (record { numbers = numbers; reply = failed.1.0 } ∷ []),
+    HasAsked.more replies.known.items m numbers failed.1.0 now after is.asked wanted failed.1.1,
+  ),
+)
 going_unanswered gives fails start events first end old next m numbers replies now after (Answer fault) is wanted failed = record {
   replies = replies.known.items;
   before = now;
@@ -149,12 +155,15 @@ going_failed gives start events first end old next replies now verdict is not ba
     record {
       replies = replies.known.items;
       asked = is.asked;
-      found_is = λ recovery gave. (bad, record {
-        from = is.from;
-        there = omega (arith, within, not);
-        passed = is.passed recovery gave;
-        here = here recovery gave;
-      });
+      found_is = λ recovery gave. (
+        bad,
+        record {
+          from = is.from;
+          there = omega (arith, within, not);
+          passed = is.passed recovery gave;
+          here = here recovery gave;
+        },
+      );
     }
 
 row_from : (judged : ℕ → MomentVerdict OutsideCause → Type 0) (events : List Event) (first : ℕ) (last : Option ℕ) (from end : ℕ) (row : Verdict OutsideCause) →
@@ -201,7 +210,7 @@ verdict_fails gives start events first last from end m verdict row old new f e i
 pub missing_stopped : {A F : Type 0} (gives : A → WantedView → ReplyView → A → Type 0) (fails : A → WantedView → F → A → Type 0) (start : List (List ℕ))
     (events : List Event) (first : ℕ) (old new : A) (fault : OutsideFault F) → IsStopped gives fails start events old new fault →
     IsMissing gives fails start events first old new fault
-missing_stopped gives fails start events first old new (Judge (Marks fault)) is = absurd cc
-missing_stopped gives fails start events first old new (Judge NoSuchMoment) is = absurd cc
-missing_stopped gives fails start events first old new (Judge Memory) is = tt
+missing_stopped gives fails start events first old new (Judge (Marks fault)) is = let e = is.0 in absurd cc
+missing_stopped gives fails start events first old new (Judge NoSuchMoment) is = let e = is.0 in absurd cc
+missing_stopped gives fails start events first old new (Judge Memory) is = is.1
 missing_stopped gives fails start events first old new (Answer fault) is = is

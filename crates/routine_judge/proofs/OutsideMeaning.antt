@@ -2,6 +2,7 @@
 use Rattle.std.proofs.Common.{◌≡◌, ◌≢◌, ◌⊎◌, ℕ, ◌+◌, ◌<◌, ◌≤◌, ◌==◌, ◌||◌, Bool, true, false, inl, inr, List, [], ◌∷◌, length, refl, sym, ap, subst, ◌∙◌, arith, Option, Some, None, Result, Ok, Err}
 use Rattle.std.specs.Prelude.{◌↔◌, slice_index_or}
 use Rattle.std.specs.List.{Contains}
+use Rattle.crash_image.specs.View.{HasLines}
 use Rattle.recovery.specs.Images.{has_same_bytes}
 use Rattle.routine_judge.proofs.OutsideAsking.{asked_named}
 use Rattle.routine_judge.specs.Images.{full_cut}
@@ -132,9 +133,11 @@ said_judged : (recovery : Outside) (start : List (List ℕ)) (events : List Even
 said_judged recovery start events replies window m right moments.Pass other gave ok v said =
     let found : (ℕ → ℕ) → Option OutsideCause → Type 0 = λ k. IsFoundOn recovery start events window m (image_at start events m k) in
     subst (λ (w : MomentVerdict OutsideCause). IsMomentVerdict true (has_same_bytes (image_at start events m)) (asks_all replies.lines.items) found (at_moment events m) w)
-    (sym said)
-    (v.0, λ cut is. sought_means recovery start events replies.known.items window m right gave ok (image_at start events m (number_in cut))
-    (length_image start (number_in cut) (at_moment events m)) None (v.1 cut is))
+    (sym said) (
+      v.0,
+      λ cut is. sought_means recovery start events replies.known.items window m right gave ok (image_at start events m (number_in cut))
+          (length_image start (number_in cut) (at_moment events m)) None (v.1 cut is),
+    )
 said_judged recovery start events replies window m right (moments.Fail name cause false) other gave ok v said =
     let found : (ℕ → ℕ) → Option OutsideCause → Type 0 = λ k. IsFoundOn recovery start events window m (image_at start events m k) in
     let means = λ (k : ℕ → ℕ) (f : Option Sought) (s : IsSoughtOn start events replies.known.items right.answers.answers.items (image_at start events m k) f).
@@ -183,23 +186,23 @@ said_means recovery start events replies window m right verdict other are gave i
 
 -- what is said of a moment, by what was sought: an image that is asked for has no reply
 pub judged_so_far : (start : List (List ℕ)) (events : List Event) (replies : Replies) (window : Window) (m : ℕ) (right : RightReplies) (verdict : MomentVerdict Sought)
-    (judged : Judged) → m ≤ length events → AreKeptIn start events replies → IsWindow events m window →
+    (judged : Judged) → HasLines start events → m ≤ length events → AreKeptIn start events replies → IsWindow events m window →
     AreRightFor start events replies.known.items window m right → IsSoughtMoment replies right (at_moment events m) verdict start events m →
     IsSaid start events replies.known.items right.last m verdict judged → IsJudgedSoFar start events replies.known.items m judged
-judged_so_far start events replies window m right verdict (Is other) there are is ok v said =
+judged_so_far start events replies window m right verdict (Is other) lined there are is ok v said =
     λ recovery gave. said_means recovery start events replies window m right verdict other are gave is (ok recovery gave) v said
-judged_so_far start events replies window m right moments.Pass (Asks moment numbers) there are is ok v said = absurd said
-judged_so_far start events replies window m right (moments.Fail name Unknown false) (Asks moment numbers) there are is ok v said =
+judged_so_far start events replies window m right moments.Pass (Asks moment numbers) lined there are is ok v said = absurd said
+judged_so_far start events replies window m right (moments.Fail name Unknown false) (Asks moment numbers) lined there are is ok v said =
     subst (λ (n : ℕ). IsAskedFor start events replies.known.items n numbers.items) (sym said.1)
-    (asked_named start events replies.known.items m name v.1.0 numbers.items there v.1.2.there v.1.1 v.1.2.bad said.2)
-judged_so_far start events replies window m right (moments.Fail name Unknown true) (Asks moment numbers) there are is ok v said =
+    (asked_named start events replies.known.items m name v.1.0 numbers.items lined there v.1.2.there v.1.1 v.1.2.bad said.2)
+judged_so_far start events replies window m right (moments.Fail name Unknown true) (Asks moment numbers) lined there are is ok v said =
     subst (λ (n : ℕ). IsAskedFor start events replies.known.items n numbers.items) (sym said.1)
-    (asked_named start events replies.known.items m name v.2.0 numbers.items there v.2.2.0 v.2.1 v.2.2.1 said.2)
-judged_so_far start events replies window m right (moments.Fail name (Missing i) many) (Asks moment numbers) there are is ok v said = absurd said.0
-judged_so_far start events replies window m right (moments.Fail name Different many) (Asks moment numbers) there are is ok v said = absurd said.0
-judged_so_far start events replies window m right (moments.Fail name Full many) (Asks moment numbers) there are is ok v said = absurd said.0
-judged_so_far start events replies window m right (moments.TooMany named) (Asks moment numbers) there are is ok v said = absurd said
-judged_so_far start events replies window m right moments.TooLong (Asks moment numbers) there are is ok v said = absurd said
+    (asked_named start events replies.known.items m name v.2.0 numbers.items lined there v.2.2.0 v.2.1 v.2.2.1 said.2)
+judged_so_far start events replies window m right (moments.Fail name (Missing i) many) (Asks moment numbers) lined there are is ok v said = absurd said.0
+judged_so_far start events replies window m right (moments.Fail name Different many) (Asks moment numbers) lined there are is ok v said = absurd said.0
+judged_so_far start events replies window m right (moments.Fail name Full many) (Asks moment numbers) lined there are is ok v said = absurd said.0
+judged_so_far start events replies window m right (moments.TooMany named) (Asks moment numbers) lined there are is ok v said = absurd said
+judged_so_far start events replies window m right moments.TooLong (Asks moment numbers) lined there are is ok v said = absurd said
 
 or_left : (a b : Bool) → a ≡ true → (a || b) ≡ true
 or_left a b e = rw e refl

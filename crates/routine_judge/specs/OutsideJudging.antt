@@ -59,7 +59,7 @@ pub record AreNumbersOf (start : List (List ℕ)) (events : List Event) (m : ℕ
   pub size : length numbers ≡ length start
   pub cut : List (ℕ × ℕ)
   pub named : IsNamed (at_moment events m) name cut
-  pub each : (l : ℕ) → slice_index numbers l ≡ number_in cut l
+  pub each : (l : ℕ) → l < length start → slice_index numbers l ≡ number_in cut l
 
 -- each line has all its stores of moment m
 pub record AreAllStores (start : List (List ℕ)) (events : List Event) (m : ℕ) (numbers : List ℕ) : Type 0 where

@@ -1,5 +1,5 @@
 -- Moments judged in turn, by replies that are asked for where they are needed.
-use Rattle.std.specs.Prelude.{◌≡◌, ◌≢◌, ℕ, ◌++◌, ◌<◌, List, [], ◌∷◌, Option, Some, None, length, ⊤}
+use Rattle.std.specs.Prelude.{◌≡◌, ◌≢◌, ℕ, ◌++◌, ◌<◌, List, [], ◌∷◌, Option, Some, None, length}
 use Rattle.routine_judge.specs.Outside.{AreRepliesOf, HasAsked, HasNoReply, IsOutsideMoment, Outside}
 use Rattle.routine_judge.specs.OutsideViews.{KnownView, ReplyView, WantedView}
 use Rattle.routine_judge.specs.declared.fault.JudgeFault.{JudgeFault}
@@ -34,16 +34,22 @@ pub record IsAnswered {A : Type 0} (gives : A → WantedView → ReplyView → A
   pub given : gives before (record { start = start; events = events; moment = m; numbers = numbers }) reply after
   pub kept : more ≡ replies ++ (record { numbers = numbers; reply = reply } ∷ [])
 
--- none was given, or it couldn't be kept for memory
-abbrev pub IsUnanswered : {A F : Type 0} → (A → WantedView → F → A → Type 0) → List (List ℕ) → List Event → ℕ → List ℕ → A → A → OutsideFault F → Type 0
-IsUnanswered fails start events m numbers before after (Judge fault) = fault ≡ Memory
-IsUnanswered fails start events m numbers before after (Answer fault) =
+-- none was given, or memory was refused behind one
+abbrev pub IsUnanswered : {A F : Type 0} → (A → WantedView → ReplyView → A → Type 0) → (A → WantedView → F → A → Type 0) → List (List ℕ) → List Event
+    → ℕ → List ℕ → A → A → OutsideFault F → Type 0
+IsUnanswered gives fails start events m numbers before after (Judge fault) =
+    (fault ≡ Memory) × ((reply : ReplyView) × gives before (record { start = start; events = events; moment = m; numbers = numbers }) reply after)
+IsUnanswered gives fails start events m numbers before after (Answer fault) =
     fails before (record { start = start; events = events; moment = m; numbers = numbers }) fault after
+
+-- each image that was asked for got a reply
+abbrev pub AreAllReplied : {A : Type 0} → (A → WantedView → ReplyView → A → Type 0) → List (List ℕ) → List Event → A → A → Type 0
+AreAllReplied gives start events old new = (replies : List KnownView) × HasAsked gives start events old replies new
 
 -- why moments aren't judged: memory was refused, or there was no reply
 abbrev pub IsStopped : {A F : Type 0} → (A → WantedView → ReplyView → A → Type 0) → (A → WantedView → F → A → Type 0) → List (List ℕ) → List Event
     → A → A → OutsideFault F → Type 0
-IsStopped gives fails start events old new (Judge fault) = fault ≡ Memory
+IsStopped gives fails start events old new (Judge fault) = (fault ≡ Memory) × AreAllReplied gives start events old new
 IsStopped gives fails start events old new (Answer fault) = HasNoReply gives fails start events old new fault
 
 -- why there is no verdict from moment `first` on: there is no such moment, and nobody was asked; or the same
@@ -51,7 +57,7 @@ abbrev pub IsMissing : {A F : Type 0} → (A → WantedView → ReplyView → A 
     → ℕ → A → A → OutsideFault F → Type 0
 IsMissing gives fails start events first old new (Judge (Marks fault)) = ⊥
 IsMissing gives fails start events first old new (Judge NoSuchMoment) = (length events < first) × (new ≡ old)
-IsMissing gives fails start events first old new (Judge Memory) = ⊤
+IsMissing gives fails start events first old new (Judge Memory) = AreAllReplied gives start events old new
 IsMissing gives fails start events first old new (Answer fault) = HasNoReply gives fails start events old new fault
 
 -- the verdict on a row of moments is that on this one

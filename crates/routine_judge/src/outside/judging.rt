@@ -91,11 +91,7 @@ impl<'a> OutsideRun<'a> {
         Ok(run)
     }
 
-    fn of(
-        alloc: Global,
-        medium: &'a Medium,
-        trace: &'a Trace,
-    ) -> Result<OutsideRun<'a>, AllocError>
+    fn of(alloc: Global, medium: &'a Medium, trace: &'a Trace) -> Result<OutsideRun<'a>, AllocError>
         requires lines { HasLines medium.now trace.now.events }
         requires sound { AreSound Never trace.now.events (length trace.now.events) }
         ensures { IfOk result (λ run. run ≡ record { start = medium.now; events = trace.now.events }) }
@@ -114,7 +110,7 @@ impl<'a> OutsideRun<'a> {
     ///
     /// # Errors
     /// NoSuchMoment where `first` is past the moments of the run; no image is asked for then. Memory where a growth is refused. Where there is
-    /// no reply, why.
+    /// no reply, why; no image is asked for behind it.
     pub fn judge<A: Answering, T: Threads + Sync>(
         &self,
         rt: &T,
@@ -191,7 +187,7 @@ impl<'a> OutsideRun<'a> {
         ensures ok { OnOk result (IsAnswered A.gives self.now.start self.now.events moment numbers.items answering.old answering.new
             replies.old.known.items replies.new.known.items) }
         ensures known { OnOk result (AreKeptIn self.now.start self.now.events replies.new) }
-        ensures err { IfErr result (IsUnanswered A.fails self.now.start self.now.events moment numbers.items answering.old answering.new) }
+        ensures err { IfErr result (IsUnanswered A.gives A.fails self.now.start self.now.events moment numbers.items answering.old answering.new) }
     {
         let wanted = Wanted {
             medium: self.medium,

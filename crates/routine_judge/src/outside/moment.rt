@@ -5,8 +5,7 @@ ghost use Rattle.routine_judge.specs.Outside.{HasNoneOn};
 ghost use Rattle.routine_judge.specs.OutsideJudging.{AreAllStores, AreNumbersOf, IsJudgedSoFar, IsRightOfTwo, IsRightSoFar, IsSaid, IsWordOf, SaysCause};
 ghost use Rattle.routine_judge.specs.OutsideTables.{AreKeptIn, AreKnownIn, IsReplyAt};
 ghost use Rattle.routine_judge.specs.OutsideViews.{KnownView as AKnown};
-ghost use Rattle.std.specs.Prelude.{◌≡◌, ◌<◌, ◌≤◌, ℕ, All, IfNone, IfOk, IfSome, length, slice_index};
-ghost use Rattle.store_trace.specs.Cut.{number_in};
+ghost use Rattle.std.specs.Prelude.{◌≡◌, ◌≤◌, IfNone, IfOk, IfSome, length};
 ghost use Rattle.verdict.specs.CutImages.{image_at};
 
 use crate::full_image::FullImage;
@@ -16,7 +15,7 @@ use crate::outside::judging::OutsideRun;
 use crate::outside::known_images::KnownImages;
 use crate::outside::replies::Replies;
 use crate::outside::right_replies::RightReplies;
-use crash_image::{Cuts, ImageName};
+use crash_image::{Cuts, ImageName, numbers_of_lines};
 use std::alloc::{AllocError, Global};
 use std::thread::Threads;
 use verdict::{MomentCuts, MomentVerdict, Opener, open_moment};
@@ -196,27 +195,8 @@ impl OutsideRun<'_> {
         let Ok(cut) = cuts.named(alloc, image) else {
             return Err(AllocError);
         };
-        numbers_of(alloc, self.index.lines(), cut.entries())
+        numbers_of_lines(alloc, self.index.lines(), cut.entries())
     }
-}
-
-/// The numbers of so many lines: those that the entries give, and 0 for others. Of two entries of a line the first counts.
-fn numbers_of(
-    alloc: Global,
-    lines: u32,
-    entries: &[(u32, u32)],
-) -> Result<Vec<u32>, AllocError>
-    requires { All (λ (entry : ℕ × ℕ). entry.0 < lines) entries.now }
-    ensures size { IfOk result (λ numbers. length numbers.items ≡ lines) }
-    ensures each { IfOk result (λ numbers. (l : ℕ) → slice_index numbers.items l ≡ number_in entries.now l) }
-{
-    let mut numbers = vec![in alloc; 0; lines as usize]?;
-    let mut at = entries.len();
-    while at > 0 {
-        at -= 1;
-        numbers[entries[at].0 as usize] = entries[at].1;
-    }
-    Ok(numbers)
 }
 
 /// Why an image is bad, by the words of replies; reply `last` is the one on the full image that comes last. None where no reply is one on it.

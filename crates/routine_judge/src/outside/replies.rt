@@ -1,9 +1,10 @@
 //! The replies of an outside recovery so far.
 
 ghost use Rattle.crash_image.specs.TraceIndexView.{IndexView};
+ghost use Rattle.line_memory.specs.Lines.{line_at};
 ghost use Rattle.routine_judge.specs.Outside.{AgreesWith, HasNoneOn};
 ghost use Rattle.routine_judge.specs.OutsideTables.{AreKeptIn, AreKnownIn, IsKnownIn, IsReplyAt};
-ghost use Rattle.routine_judge.specs.OutsideViews.{KnownView as AKnown};
+ghost use Rattle.routine_judge.specs.OutsideViews.{KnownView as AKnown, known_image};
 ghost use Rattle.std.specs.Prelude.{◌≡◌, ◌↔◌, ◌⊎◌, ℕ, List, [], ◌∷◌, ◌++◌, Contains, IfNone, IfSome, IsTrue, OnOk, length};
 
 use crate::outside::reply::Reply;
@@ -43,19 +44,29 @@ impl Known {
     }
 
     /// Whether the reply is one on the medium, which has the bytes of the image in each line that the reply names.
-    #[tactic(auto, using(crate::proofs::OutsideAgreeing::agrees_none, crate::proofs::OutsideAgreeing::agrees_more, crate::proofs::OutsideAgreeing::number_there, crate::proofs::OutsideAgreeing::line_there))]
+    #[tactic(auto, using(crate::proofs::OutsideAgreeing::agrees_none, crate::proofs::OutsideAgreeing::agrees_more))]
     fn is_on<S: Source>(&self, index: &TraceIndex<'_>, medium: &S) -> bool
         requires known { IsKnownIn index.now.start index.now.events self.now }
         requires size { length (S.medium medium.now) ≡ length index.now.start }
         ensures { IsTrue result ↔ AgreesWith index.now.start index.now.events self.now (S.medium medium.now) }
     {
         for line in self.reply.lines() {
-            let number = self.numbers[*line as usize];
-            if medium.line(*line) != index.line(*line, number) {
+            if !self.has_line_of(index, medium, *line) {
                 return false;
             }
         }
         true
+    }
+
+    /// Whether the medium has the bytes of the image in a line that the reply names.
+    fn has_line_of<S: Source>(&self, index: &TraceIndex<'_>, medium: &S, line: u32) -> bool
+        requires known { IsKnownIn index.now.start index.now.events self.now }
+        requires size { length (S.medium medium.now) ≡ length index.now.start }
+        requires named { Contains self.now.reply.lines line }
+        ensures { IsTrue result ↔ line_at (S.medium medium.now) line ≡ line_at (known_image index.now.start index.now.events self.now.numbers) line }
+    {
+        let number = self.numbers[line as usize];
+        medium.line(line) == index.line(line, number)
     }
 }
 

@@ -65,8 +65,8 @@ fn add_found(
     ensures { OnOk result ((bytes : List ℕ) → Contains answers.new.answers.items bytes ↔ (Contains answers.old.answers.items bytes
         ⊎ (result_map_both (λ answer. answer.now) (λ word. word.now) found.entry ≡ Ok bytes))) }
 {
-    if let Ok(bytes) = found {
-        answers.add_answer(HeldAnswer::of(alloc, bytes)?)?;
+    match found {
+        Ok(bytes) => answers.add_answer(HeldAnswer::of(alloc, bytes)?),
+        Err(_) => Ok(()),
     }
-    Ok(())
 }
