@@ -74,7 +74,7 @@ impl OpenEvents {
     {
         match self {
             OpenEvents::Run(_) => &[],
-            OpenEvents::Trace(open) => &open.ranked.names,
+            OpenEvents::Trace(open) => open.ranked.names.as_slice(),
         }
     }
 
