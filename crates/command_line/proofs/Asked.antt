@@ -40,7 +40,7 @@ more_of_line line byte is other =
 
 -- a buffer of one byte that was filled
 one_byte : (buffer : List ℕ) (count : ℕ) → length buffer ≡ 1 → count ≢ 0 → take count buffer ≡ get_or buffer 0 0 ∷ []
-one_byte [] count one some = absurd cc
+one_byte [] count one some = absurd (omega (arith, one))
 one_byte (b ∷ []) 0 one some = absurd (some refl)
 one_byte (b ∷ []) (suc n) one some = search rules
 one_byte (b ∷ c ∷ bs) count one some = absurd (omega (arith, one))
@@ -177,7 +177,7 @@ found_fault one other opened input output ask old new faults.Memory told sound b
 -- events that aren't judged from the first moment on aren't from another one on
 pub refused_from : (overlap : Overlap) (events : List Event) (first : ℕ) (fault : JudgeFault) → IsRefusal overlap events 0 fault → IsRefusal overlap events first fault
 refused_from overlap events first (faults.Marks fault) is = is
-refused_from overlap events first faults.NoSuchMoment is = absurd (let less = is.2 in omega arith)
+refused_from overlap events first faults.NoSuchMoment is = absurd (omega (arith, is.2))
 refused_from overlap events first faults.Memory is = is
 
 pub refused_ask : (ask : OpenAsk) (streams : Streams) (fault : JudgeFault) → IsRefusal Never (events_of ask.events) 0 fault

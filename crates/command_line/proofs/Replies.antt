@@ -1,5 +1,5 @@
 -- What the words of a line say, and why they say nothing.
-use Rattle.std.proofs.Common.{◌≡◌, ◌≢◌, ◌∙◌, ◌<◌, ◌≤◌, ◌+◌, ◌==◌, ◌&&◌, ℕ, zero, suc, Bool, true, false, Bor, List, [], ◌∷◌, ◌++◌, Option, Some, None, Result, Ok, Err, codes, inl, inr, refl, sym, ap, subst, arith, eqb, eq-eqb, length, get_or, map, take, position}
+use Rattle.std.proofs.Common.{◌≡◌, ◌≢◌, ◌∙◌, ◌<◌, ◌≤◌, ◌+◌, ◌&&◌, ℕ, zero, suc, Bool, true, false, Bor, List, [], ◌∷◌, ◌++◌, Option, Some, None, Result, Ok, Err, codes, inl, inr, refl, sym, ap, subst, arith, eqb, eq-eqb, length, get_or, map, take, position}
 use Rattle.std.specs.Prelude.{All, IfOk, IfSome, MatchOption}
 use Rattle.std.specs.List.{AllZip, flat_map, list_all, range_with_len}
 use Rattle.std.specs.Str.{IsUtf8}
@@ -126,18 +126,18 @@ pub no_list : (names : List ℕ) (ws rest : List (List ℕ)) → ws ≡ codes "l
 no_list names ws rest is none ranks (inl all) = no_words _ rest (sym is ∙ all.0)
 no_list names ws rest is none ranks (inr says) = none says.0 (other_words _ _ rest (says.0 ∷ []) (sym is ∙ says.1))
 
-pub by_list : {E : Type 0} (names : List ℕ) (ws rest : List (List ℕ)) (word : List ℕ) (outcome : Result (Option (List ℕ)) E)
+pub by_list : {V E : Type 0} (items : V → List ℕ) (names : List ℕ) (ws rest : List (List ℕ)) (word : List ℕ) (outcome : Result (Option V) E)
     → ws ≡ codes "loads" ∷ rest → rest ≡ word ∷ []
-    → IfOk outcome (λ found. MatchOption found ((ranks : List ℕ) → ¬ IsLineList names word ranks) (IsLineList names word))
-    → IfOk outcome (λ found. MatchOption found ((ranks : List ℕ) → ¬ SaysLoads names ws ranks) (SaysLoads names ws))
-by_list names ws rest word (Ok (Some ranks)) is only says = inr (word, is ∙ ap (λ (r : List (List ℕ)). codes "loads" ∷ r) only, says)
-by_list names ws rest word (Ok None) is only none = λ ranks says. elim says [
+    → IfOk outcome (λ found. MatchOption found ((ranks : List ℕ) → ¬ IsLineList names word ranks) (λ ranks. IsLineList names word (items ranks)))
+    → IfOk outcome (λ found. MatchOption found ((ranks : List ℕ) → ¬ SaysLoads names ws ranks) (λ ranks. SaysLoads names ws (items ranks)))
+by_list items names ws rest word (Ok (Some ranks)) is only says = inr (word, is ∙ ap (λ (r : List (List ℕ)). codes "loads" ∷ r) only, says)
+by_list items names ws rest word (Ok None) is only none = λ ranks says. elim says [
   | inl all ↦ no_words _ rest (sym is ∙ all.0)
   | inr list ↦
-    let same : list.0 ∷ [] ≡ word ∷ [] = sym (other_words _ _ rest (list.0 ∷ []) (sym is ∙ list.1)) ∙ only in
+    let same = sym (other_words _ _ rest (list.0 ∷ []) (sym is ∙ list.1)) ∙ only in
     none ranks (subst (λ (w : List ℕ). IsLineList names w ranks) (first_word list.0 word [] [] same) list.2)
 ]
-by_list names ws rest word (Err e) is only says = tt
+by_list items names ws rest word (Err e) is only says = tt
 
 -- a word that is no text lists nothing
 pub not_utf8 : (names word : List ℕ) → ¬ IsUtf8 word → (ranks : List ℕ) → ¬ IsLineList names word ranks
