@@ -1,5 +1,5 @@
 -- Lines that are read byte by byte, and the images that were asked for.
-use Rattle.std.proofs.Common.{◌≡◌, ◌≢◌, ◌∙◌, ◌<◌, ◌≤◌, ◌+◌, ℕ, List, [], ◌∷◌, ◌++◌, Option, Some, None, Result, Ok, Err, refl, sym, ap, subst, inl, inr, arith, length, get_or, take, rules}
+use Rattle.std.proofs.Common.{◌≡◌, ◌≢◌, ◌∙◌, ◌<◌, ◌≤◌, ◌+◌, ℕ, zero, suc, List, [], ◌∷◌, ◌++◌, Option, Some, None, Result, Ok, Err, refl, sym, ap, subst, inl, inr, arith, length, get_or, take, rules}
 use Rattle.std.specs.Prelude.{All}
 use Rattle.std.specs.Io.KnownBytes.{Consumes, Keeps}
 use Rattle.std.proofs.KnownBytes.{Consumes-kept, Consumes-nil, Consumes-trans}
@@ -41,7 +41,7 @@ more_of_line line byte is other =
 -- a buffer of one byte that was filled
 one_byte : (buffer : List ℕ) (count : ℕ) → length buffer ≡ 1 → count ≢ 0 → take count buffer ≡ get_or buffer 0 0 ∷ []
 one_byte [] count one some = absurd (omega (arith, one))
-one_byte (b ∷ []) 0 one some = absurd (some refl)
+one_byte (b ∷ []) zero one some = absurd (some refl)
 one_byte (b ∷ []) (suc n) one some = search rules
 one_byte (b ∷ c ∷ bs) count one some = absurd (omega (arith, one))
 

@@ -1,12 +1,14 @@
 -- What the words of a line say, and why they say nothing.
-use Rattle.std.proofs.Common.{◌≡◌, ◌≢◌, ◌∙◌, ◌<◌, ◌≤◌, ◌+◌, ◌&&◌, ℕ, zero, suc, Bool, true, false, Bor, List, [], ◌∷◌, ◌++◌, Option, Some, None, Result, Ok, Err, codes, inl, inr, refl, sym, ap, subst, arith, eqb, eq-eqb, length, get_or, map, take, position}
-use Rattle.std.specs.Prelude.{All, IfOk, IfSome, MatchOption}
-use Rattle.std.specs.List.{AllZip, flat_map, list_all, range_with_len}
+use Rattle.std.proofs.Common.{◌≡◌, ◌≢◌, ◌∙◌, ◌<◌, ◌≤◌, ◌+◌, ◌&&◌, ℕ, zero, suc, Bool, true, false, Bor, List, [], ◌∷◌, ◌++◌, Option, Some, None, Result, Ok, Err, codes, inl, inr, refl, sym, ap, subst, arith, eqb, eq-eqb, length, get_or, map, take, position, lit<}
+use Rattle.std.specs.Prelude.{All, IfNone, IfOk, IfSome, MatchOption, slice_index}
+use Rattle.std.specs.List.{AllZip, flat_map, list_all}
 use Rattle.std.specs.Str.{IsUtf8}
-use Rattle.std.proofs.lemmas.Grind.{flat_map-append}
+use Rattle.std.proofs.lemmas.Grind.{common_steps, flat_map-append}
 use Rattle.std.proofs.lemmas.List.{append-nil, take_all, take_more}
 use Rattle.std.proofs.lemmas.List.Elements.{All-append, All-cons, All-nil}
-use Rattle.std.proofs.lemmas.List.FromFn.{get_or-range_with_len, length-range_with_len}
+use Rattle.std.proofs.lemmas.Str.Pattern.{strip_prefix_char}
+use Rattle.std.specs.Str.Pattern.{FindsCharPrefix}
+use Rattle.trace_file.specs.Ranks.{AreInOrder}
 use Rattle.hex.specs.Hex.{decode_of}
 use Rattle.hex.specs.declared.error.FromHexError.{FromHexError}
 use Rattle.routine_judge.specs.OutsideViews.{ReplyView}
@@ -163,12 +165,12 @@ unnamed_at (w ∷ ws) zero word inside is none (l ∷ ls) says = let P : List �
 unnamed_at (w ∷ ws) (suc n) word inside is none (l ∷ ls) says = unnamed_at ws n word (omega arith) is none ls says.1
 
 -- the ranks of one more line
-pub rank_more : (names lines : List ℕ) (n : ℕ) (d : ℕ) → n < length lines
-    → flat_map (rank_of names) (take (n + 1) lines) ≡ flat_map (rank_of names) (take n lines) ++ rank_of names (get_or lines n d)
-rank_more names lines n d inside =
-    ap (flat_map (rank_of names)) (take_more lines n d inside)
-    ∙ flat_map-append (rank_of names) (take n lines) (get_or lines n d ∷ [])
-    ∙ ap (λ (l : List ℕ). flat_map (rank_of names) (take n lines) ++ l) (append-nil (rank_of names (get_or lines n d)))
+pub rank_more : (names lines : List ℕ) (n : ℕ) → n < length lines
+    → flat_map (rank_of names) (take (n + 1) lines) ≡ flat_map (rank_of names) (take n lines) ++ rank_of names (get_or lines n 0)
+rank_more names lines n inside =
+    ap (flat_map (rank_of names)) (take_more lines n 0 inside)
+    ∙ flat_map-append (rank_of names) (take n lines) (get_or lines n 0 ∷ [])
+    ∙ ap (λ (l : List ℕ). flat_map (rank_of names) (take n lines) ++ l) (append-nil (rank_of names (get_or lines n 0)))
 
 pub ranks_all : (names lines : List ℕ) (n : ℕ) → length lines ≤ n → flat_map (rank_of names) (take n lines) ≡ flat_map (rank_of names) lines
 ranks_all names lines n past = ap (flat_map (rank_of names)) (take_all n lines past)
@@ -178,7 +180,16 @@ pub more_there : (count rank : ℕ) (ranks : List ℕ) → rank < count → All 
 more_there count rank ranks inside there =
     let P : ℕ → Type 0 = λ r. r < count in All-append P ranks (rank ∷ []) there (All-cons P rank [] inside (All-nil P))
 
-pub all_there : (count : ℕ) → All (λ r. r < count) (range_with_len 0 count)
-all_there count k d inside =
-    let short : k < count = rw length-range_with_len at inside in
-    rw (get_or-range_with_len 0 count k d short) (omega (arith, short))
+pub all_there : (count : ℕ) (ranks : List ℕ) → AreInOrder count ranks → All (λ r. r < count) ranks
+all_there count ranks is k d inside =
+    let short : k < count = rw is.count_is at inside in
+    let own : slice_index ranks k ≡ k = is.own k short in
+    grind (arith, common_steps)
+
+-- a word without an `l`
+pub if_none : {X : Type 0} (r : Option X) (P : Type 0) → P → IfNone r P
+if_none None P p = p
+if_none (Some x) P p = tt
+
+pub other_letter : (word : List ℕ) → FindsCharPrefix 108 word None → (line : ℕ) → ¬ IsLineName word line
+other_letter word none line says = strip_prefix_char 108 word None none (lit< tt) says.digits says.spelled

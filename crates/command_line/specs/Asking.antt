@@ -1,12 +1,16 @@
 -- What `judge --ask` comes to: images are asked for on standard output, standard input has the replies, and then comes the verdict.
 use Rattle.std.specs.Prelude.{◌≡◌, ◌≢◌, ◌⊎◌, ◌++◌, ◌≤◌, ◌<◌, All, ℕ, Bool, IfSome, List, [], ◌∷◌, Option, Some, None, Result, Ok, Err, MatchResult, codes, length, map, string_bytes, take}
-use Rattle.std.specs.List.{range_with_len}
 use Rattle.std.specs.Io.KnownBytes.{Appends, Consumes, IsAtEnd}
 use Rattle.std.specs.Str.Lossy.{utf8_lossy}
 use Rattle.arguments.specs.Spans.{IsUpward}
 use Rattle.arguments.specs.declared.asked.AskCommand.{AskCommand}
 use Rattle.crash_test.specs.declared.losses.ExplainedImage.{ExplainedImage}
 use Rattle.debugger.specs.Dialogue.{IsLine}
+use Rattle.durability.specs.declared.cut.Kept.{Kept}
+use Rattle.durability.specs.declared.cut.Lost.{Lost}
+use Rattle.durability.specs.declared.cut.ToldCut.{ToldCut}
+use Rattle.durability.specs.declared.mend.Mend.{Mend}
+use Rattle.durability.specs.declared.mend.Mend.TheVariants as mends
 use Rattle.debugger.specs.StreamFailures.{AppendsFront}
 use Rattle.routine_judge.specs.MarkFaults.{AreSound}
 use Rattle.routine_judge.specs.Outside.{HasAsked, HasNoReply, IsOutsideVerdict}
@@ -19,6 +23,7 @@ use Rattle.store_trace.specs.Marks.{begun}
 use Rattle.text.specs.Words.{words}
 use Rattle.text.specs.declared.image_name.name.ImageName.{ImageName}
 use Rattle.text.specs.declared.image_name.name.ImageName.TheVariants.{Number, Cut}
+use Rattle.trace_file.specs.Ranks.{AreInOrder}
 use Rattle.verdict.specs.declared.moment_verdict.verdict.Verdict.{Verdict}
 use Rattle.verdict.specs.declared.moment_verdict.verdict.Verdict.TheVariants as verdicts
 use Rattle.command_line.specs.Answered.{PrintsVerdict}
@@ -178,18 +183,51 @@ outside_text (Full word) = codes "full-" ++ utf8_lossy word.items
 
 -- all lines of an image count
 abbrev pub IsAllOf : List (List ℕ) → List ℕ → Type 0
-IsAllOf image lines = lines ≡ range_with_len 0 (length image)
+IsAllOf image lines = AreInOrder (length image) lines
 
 -- what a failing image lacks and keeps, where that is asked for
 abbrev pub ExplainsAsked : OpenAsk → Verdict OutsideCause → Result (Option ExplainedImage) Failure → Type 0
 ExplainsAsked ask verdict = Explains (IsExplainedOf IsAllOf ask.events) (events_of ask.events) (failing ask.command.why verdict)
 
+-- what it lacks and keeps, by the names of lines
+abbrev pub named_lost : (ℕ → ℕ) → Lost → Lost
+named_lost name lost = record lost { line = name lost.line }
+
+abbrev pub named_kept : (ℕ → ℕ) → Kept → Kept
+named_kept name kept = record kept { line = name kept.line }
+
+abbrev pub named_mend : (ℕ → ℕ) → Mend → Mend
+named_mend name (mends.Fence behind deadline) = mends.Fence behind deadline
+named_mend name (mends.CleanAndFence line behind deadline) = mends.CleanAndFence (name line) behind deadline
+named_mend name (mends.Later store) = mends.Later store
+named_mend name (mends.Earlier store) = mends.Earlier store
+
+pub record IsNamedCut (name : ℕ → ℕ) (told named : ToldCut) : Type 0 where
+  pub lost : named.lost.items ≡ map (named_lost name) told.lost.items
+  pub kept : named.kept.items ≡ map (named_kept name) told.kept.items
+  pub mends : named.mends.items ≡ map (named_mend name) told.mends.items
+
+pub record IsNamed (name : ℕ → ℕ) (explained named : ExplainedImage) : Type 0 where
+  pub read : IsNamedCut name explained.told.read named.told.read
+  pub unread : named.told.unread ≡ explained.told.unread
+  pub schedule : named.schedule ≡ explained.schedule
+
+abbrev pub IsNamedWhy : (ℕ → ℕ) → Option ExplainedImage → Option ExplainedImage → Type 0
+IsNamedWhy name None named = named ≡ None
+IsNamedWhy name (Some explained) None = ⊥
+IsNamedWhy name (Some explained) (Some named) = IsNamed name explained named
+
+-- memory for that may be refused
+pub record NamesWhy (name : ℕ → ℕ) (why : Option ExplainedImage) (outcome : Result (Option ExplainedImage) Failure) : Type 0 where
+  pub names : MatchResult outcome (IsNamedWhy name why) (λ failure. failure ≡ Memory)
+
 -- what is told of the verdict on standard output, and on standard error, where no moment is judged
 abbrev pub TellsVerdict : {E : Type 0} → (E → Option (List ℕ)) → OpenAsk → Verdict OutsideCause → Step E Answer
 TellsVerdict said ask verdict =
     First (Still (ExplainsAsked ask verdict)) (λ why.
-    First (Still (PrintsVerdict outside_text ask.command.json ask.events (named_verdict (name_in ask.events) verdict) why))
-    (Answers said (judges_none verdict)))
+    First (Still (NamesWhy (name_in ask.events) why)) (λ named.
+    First (Still (PrintsVerdict outside_text ask.command.json ask.events (named_verdict (name_in ask.events) verdict) named))
+    (Answers said (judges_none verdict))))
 
 -- the verdict on the events, and then what is told of it; nothing is told where there is none
 pub record JudgesAsked {E : Type 0} (said : E → Option (List ℕ)) (ask : OpenAsk) (old new : Streams) (errors : E) (outcome : Result Answer Failure)

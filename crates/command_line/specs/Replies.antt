@@ -1,12 +1,13 @@
 -- The replies of an outside recovery, each a line.
 -- Source: this project's own format.
 use Rattle.std.specs.Prelude.{◌≡◌, ◌≢◌, ◌⊎◌, ◌++◌, ◌==◌, ◌||◌, ◌&&◌, ℕ, Bool, true, List, [], ◌∷◌, Ok, Err, codes, length, nat_le, position}
-use Rattle.std.specs.List.{AllZip, flat_map, list_all, range_with_len}
+use Rattle.std.specs.List.{AllZip, flat_map, list_all}
 use Rattle.std.specs.Option.{option_to_list}
 use Rattle.std.specs.Str.{IsUtf8}
 use Rattle.hex.specs.Hex.{decode_of}
 use Rattle.routine_judge.specs.OutsideViews.{ReplyView}
 use Rattle.text.specs.Grammar.{IsNumber, words as listed}
+use Rattle.trace_file.specs.Ranks.{AreInOrder}
 
 -- `lN`
 pub record IsLineName (word : List ℕ) (line : ℕ) : Type 0 where
@@ -27,7 +28,7 @@ pub record IsLineList (names word ranks : List ℕ) : Type 0 where
 
 -- these words say of which lines bytes were loaded: `loads` and a list of them, or no word, and then it may have been all
 abbrev pub SaysLoads : List ℕ → List (List ℕ) → List ℕ → Type 0
-SaysLoads names words ranks = ((words ≡ []) × (ranks ≡ range_with_len 0 (length names)))
+SaysLoads names words ranks = ((words ≡ []) × AreInOrder (length names) ranks)
     ⊎ ((list : List ℕ) × (words ≡ codes "loads" ∷ list ∷ []) × IsLineList names list ranks)
 
 -- the digits of an answer are the first word, but for `loads`; there may be none

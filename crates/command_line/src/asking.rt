@@ -2,7 +2,7 @@
 
 ghost use Rattle.arguments.specs.Spans.{IsUpward};
 ghost use Rattle.command_line.specs.Answered.{PrintsVerdict};
-ghost use Rattle.command_line.specs.Asking.{FailsReply, FindsVerdict, GivesReply, IsAllOf, IsOpenAsk, JudgesAsked, OpensAsk, TellsVerdict, named_entry, named_image, named_verdict, names_of, outside_text};
+ghost use Rattle.command_line.specs.Asking.{FailsReply, FindsVerdict, GivesReply, IsAllOf, IsNamedCut, IsOpenAsk, JudgesAsked, NamesWhy, OpensAsk, TellsVerdict, named_entry, named_image, named_kept, named_lost, named_mend, named_verdict, names_of, outside_text};
 ghost use Rattle.command_line.specs.Reasons.{HasFewSteps};
 ghost use Rattle.command_line.specs.Traces.{HasPlaces, events_of, medium_of, name_in};
 ghost use Rattle.command_line.specs.Verdicts.{told_verdict};
@@ -27,7 +27,8 @@ use crate::verdicts::{
     bounds, told_fail, told_open, told_pass, told_too_long, told_too_many, verdict_status,
 };
 use arguments::AskCommand;
-use crash_test::{ExplainedImage, Reader};
+use crash_test::{ExplainedImage, Reader, ToldImage};
+use durability::{Kept, Lost, Mend, ToldCut};
 use line_memory::Medium;
 use routine_judge::{Answering, OutsideCause, OutsideFault, OutsideRun, Reply, Verdict, Wanted};
 use std::alloc::{AllocError, Global};
@@ -187,7 +188,8 @@ fn tell_verdict<E: Write>(
     ensures { TellsVerdict E.contents ask.now verdict.now errors.old result errors.new }
 {
     let why = why_of(alloc, ask.command.why, &ask.events, verdict, &AllLines)?;
-    let answer = asked_answer(alloc, ask, verdict, &why)?;
+    let named = named_why(alloc, &ask.events, why)?;
+    let answer = asked_answer(alloc, ask, verdict, &named)?;
     let _ = note_none(judges_none(verdict), errors);
     Ok(answer)
 }
@@ -203,6 +205,86 @@ impl Reader for AllLines {
 
     fn lines_read(&self, alloc: Global, image: &Medium) -> Result<Vec<u32>, AllocError> {
         (0..image.lines()).collect(alloc)
+    }
+}
+
+/// What an image lacks and keeps, by the names of its lines.
+fn named_why(
+    alloc: Global,
+    events: &OpenEvents,
+    why: Option<ExplainedImage>,
+) -> Result<Option<ExplainedImage>, Failure>
+    requires few { IfSome why HasFewSteps }
+    ensures names { NamesWhy (name_in events.now) why result }
+    ensures few { IfOk result (λ named. IfSome named HasFewSteps) }
+{
+    match why {
+        Some(explained) => {
+            let ExplainedImage { told, schedule } = explained;
+            let read = named_cut(alloc, events, &told.read)?;
+            let unread = told.unread;
+            let told = ToldImage { read, unread };
+            Ok(Some(ExplainedImage { told, schedule }))
+        }
+        None => Ok(None),
+    }
+}
+
+fn named_cut(alloc: Global, events: &OpenEvents, told: &ToldCut) -> Result<ToldCut, AllocError>
+    ensures { IfOk result (IsNamedCut (name_in events.now) told.now) }
+{
+    let lost = named_losses(alloc, events, &told.lost)?;
+    let kept = named_keeps(alloc, events, &told.kept)?;
+    let mends = named_mends(alloc, events, &told.mends)?;
+    Ok(ToldCut { lost, kept, mends })
+}
+
+fn named_losses(alloc: Global, events: &OpenEvents, lost: &[Lost]) -> Result<Vec<Lost>, AllocError>
+    ensures { IfOk result (λ named. named.items ≡ map (named_lost (name_in events.now)) lost.now) }
+{
+    let mut named = Vec::new(alloc);
+    for one in lost {
+        let line = events.line_name(one.line);
+        named.push(Lost { line, ..*one })?;
+    }
+    Ok(named)
+}
+
+fn named_keeps(alloc: Global, events: &OpenEvents, kept: &[Kept]) -> Result<Vec<Kept>, AllocError>
+    ensures { IfOk result (λ named. named.items ≡ map (named_kept (name_in events.now)) kept.now) }
+{
+    let mut named = Vec::new(alloc);
+    for one in kept {
+        let line = events.line_name(one.line);
+        named.push(Kept { line, ..*one })?;
+    }
+    Ok(named)
+}
+
+fn named_mends(alloc: Global, events: &OpenEvents, mends: &[Mend]) -> Result<Vec<Mend>, AllocError>
+    ensures { IfOk result (λ named. named.items ≡ map (named_mend (name_in events.now)) mends.now) }
+{
+    let mut named = Vec::new(alloc);
+    for mend in mends {
+        named.push(named_mend(events, *mend))?;
+    }
+    Ok(named)
+}
+
+fn named_mend(events: &OpenEvents, mend: Mend) -> Mend
+    ensures { result ≡ named_mend (name_in events.now) mend }
+{
+    match mend {
+        Mend::CleanAndFence {
+            line,
+            behind,
+            deadline,
+        } => Mend::CleanAndFence {
+            line: events.line_name(line),
+            behind,
+            deadline,
+        },
+        other => other,
     }
 }
 

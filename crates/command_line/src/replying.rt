@@ -4,10 +4,11 @@ ghost use Rattle.command_line.specs.Asking.{IsReplied, IsUnreplied, LacksLine, R
 ghost use Rattle.command_line.specs.Replies.{IsLineList, IsLineName, IsParted, SaysAnswer, SaysLoads, SaysNone, SaysReply, is_cause_byte, rank_of};
 ghost use Rattle.hex.specs.Hex.{decode_of};
 ghost use Rattle.routine_judge.specs.OutsideViews.{ReplyView as AReply};
-ghost use Rattle.std.specs.List.{AllZip, flat_map, list_all, range_with_len};
-ghost use Rattle.std.specs.Prelude.{◌≡◌, ◌≢◌, ◌<◌, ◌≤◌, ◌++◌, ℕ, List, Ok, All, IfErr, IfNone, IfOk, IfSome, MatchOption, OnOk, length};
+ghost use Rattle.std.specs.List.{AllZip, flat_map, list_all};
+ghost use Rattle.std.specs.Prelude.{◌≡◌, ◌≢◌, ◌<◌, ◌≤◌, ◌++◌, ◌∷◌, [], ℕ, List, Ok, All, IfErr, IfNone, IfOk, IfSome, MatchOption, OnOk, length};
 ghost use Rattle.text.specs.Grammar.{words as listed};
 ghost use Rattle.text.specs.Words.{words};
+ghost use Rattle.trace_file.specs.Ranks.{AreInOrder};
 
 use crate::failure::{Failure, Refusal};
 use crate::image::place_of;
@@ -53,11 +54,21 @@ fn read_line<R: Read>(alloc: Global, input: &mut R) -> Result<Vec<u8>, Failure>
         match read_uninterrupted(input, &mut byte) {
             Ok(0) => return Err(Failure::Refused(Refusal::NoReply)),
             Ok(_) if byte[0] == b'\n' => return Ok(line),
-            Ok(_) => line.push(byte[0])?,
+            Ok(_) => match add(&mut line, byte[0]) {
+                Ok(()) => {}
+                Err(_) => return Err(Failure::Memory),
+            },
             Err(_) => return Err(Failure::File),
         }
     }
     Err(Failure::Memory)
+}
+
+fn add(line: &mut Vec<u8>, byte: u8) -> Result<(), AllocError>
+    ensures { OnOk result (line.new.items ≡ line.old.items ++ byte ∷ []) }
+{
+    line.push(byte)?;
+    Ok(())
 }
 
 /// The reply that a line is: `answer` and the digits of bytes, or `none` and a word, and behind either `loads` and lines.
@@ -180,7 +191,7 @@ fn loads_in(alloc: Global, names: &[u32], rest: &[u8]) -> Result<Option<Vec<u32>
 /// The ranks of all lines.
 fn all_ranks(alloc: Global, names: &[u32]) -> Result<Vec<u32>, AllocError>
     requires few { length names.now ≤ 16384 }
-    ensures { IfOk result (λ ranks. ranks.items ≡ range_with_len 0 (length names.now)) }
+    ensures { IfOk result (λ ranks. AreInOrder (length names.now) ranks.items) }
 {
     (0..names.len() as u32).collect(alloc)
 }
@@ -246,8 +257,8 @@ fn push_rank(ranks: &mut Vec<u32>, names: &[u32], line: u32) -> Result<(), Alloc
     ensures rank { OnOk result (ranks.new.items ≡ ranks.old.items ++ rank_of names.now line) }
     ensures there { OnOk result (All (λ rank. rank < length names.now) ranks.old.items → All (λ rank. rank < length names.now) ranks.new.items) }
 {
-    match place_of(names, line) {
-        Some(place) => ranks.push(place as u32),
-        None => Ok(()),
+    if let Some(place) = place_of(names, line) {
+        ranks.push(place as u32)?;
     }
+    Ok(())
 }

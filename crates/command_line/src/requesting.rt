@@ -52,10 +52,9 @@ fn push_raised(
 {
     let number = wanted.number(line);
     if wanted.floor(line) < number {
-        entries.push((events.line_name(line), number))
-    } else {
-        Ok(())
+        entries.push((events.line_name(line), number))?;
     }
+    Ok(())
 }
 
 /// The lines that aren't as at the start, with their bytes.

@@ -8,10 +8,28 @@ returns g c = record {
   between = c.args.errors.now;
   first = record { value = rw c.in_ok-why.was at c.why_of.ensures.told; untouched = refl };
   after = record {
-    found = Ok c.in_ok-answer.answer;
+    found = Ok c.in_ok-named.named;
     between = c.args.errors.now;
-    first = record { value = rw c.in_ok-answer.was at c.asked_answer.ensures; untouched = refl };
-    after = record { answers = refl; notes = rw c.judges_none.ensures at c.note_none.ensures.front };
+    first = record { value = rw c.in_ok-named.was at c.named_why.ensures.names; untouched = refl };
+    after = record {
+      found = Ok c.in_ok-answer.answer;
+      between = c.args.errors.now;
+      first = record { value = rw c.in_ok-answer.was at c.asked_answer.ensures; untouched = refl };
+      after = record { answers = refl; notes = rw c.judges_none.ensures at c.note_none.ensures.front };
+    };
+  };
+}
+
+pub returns-in_err-named : goal.returns-in_err-named
+returns-in_err-named g c = record {
+  found = Ok c.in_ok-why.why;
+  between = c.args.errors.now;
+  first = record { value = rw c.in_ok-why.was at c.why_of.ensures.told; untouched = refl };
+  after = record {
+    found = Err c.in_err-named.field-0.0;
+    between = c.args.errors.now;
+    first = record { value = rw c.in_err-named.was at c.named_why.ensures.names; untouched = refl };
+    after = (search rules, refl);
   };
 }
 
@@ -21,9 +39,14 @@ returns-in_err-answer g c = record {
   between = c.args.errors.now;
   first = record { value = rw c.in_ok-why.was at c.why_of.ensures.told; untouched = refl };
   after = record {
-    found = Err c.in_err-answer.field-0.0;
+    found = Ok c.in_ok-named.named;
     between = c.args.errors.now;
-    first = record { value = rw c.in_err-answer.was at c.asked_answer.ensures; untouched = refl };
-    after = (search rules, refl);
+    first = record { value = rw c.in_ok-named.was at c.named_why.ensures.names; untouched = refl };
+    after = record {
+      found = Err c.in_err-answer.field-0.0;
+      between = c.args.errors.now;
+      first = record { value = rw c.in_err-answer.was at c.asked_answer.ensures; untouched = refl };
+      after = (search rules, refl);
+    };
   };
 }

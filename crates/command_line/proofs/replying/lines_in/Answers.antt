@@ -17,7 +17,7 @@ loop-word-preserved c = (
   tt,
   tt,
   rw c.in_ok-push.ensures.items
-      (one_more_named c.loop-word.yielded c.loop-word.lines.items c.in-Some.word c.in-Some-line.line c.loop-word.invariant.2 c.in-Some-line.ensures.some),
+      (one_more_named c.loop-word.yielded c.loop-word.lines.items c.in-Some.word c.in-Some-line_in.line c.loop-word.invariant.2 c.in-Some-line_in.ensures.some),
 )
 
 pub returns : goal.returns
