@@ -39,25 +39,41 @@ more_of_line line byte is other =
     let P : ℕ → Type 0 = λ b. b ≢ 10 in All-append P line (byte ∷ []) is (All-cons P byte [] other (All-nil P))
 
 -- a buffer of one byte that was filled
+nothing_taken : (n : ℕ) → ◌≡◌ {A = List ℕ} (take n []) []
+nothing_taken zero = refl
+nothing_taken (suc n) = refl
+
 one_byte : (buffer : List ℕ) (count : ℕ) → length buffer ≡ 1 → count ≢ 0 → take count buffer ≡ get_or buffer 0 0 ∷ []
 one_byte [] count one some = absurd (omega (arith, one))
 one_byte (b ∷ []) zero one some = absurd (some refl)
-one_byte (b ∷ []) (suc n) one some = search rules
+one_byte (b ∷ []) (suc n) one some = ap (λ (l : List ℕ). b ∷ l) (nothing_taken n)
 one_byte (b ∷ c ∷ bs) count one some = absurd (omega (arith, one))
 
--- one more byte was read
-pub byte_read : (first second third : Option (List ℕ)) (line buffer : List ℕ) (count : ℕ) → length buffer ≡ 1 → count ≢ 0 → Consumes first second line
-    → Consumes second third (take count buffer) → Consumes first third (line ++ get_or buffer 0 0 ∷ [])
-byte_read first second third line buffer count one some before more =
-    Consumes-trans first second third line (get_or buffer 0 0 ∷ []) before (rw (one_byte buffer count one some) at more)
+pub byte_taken : (first second : Option (List ℕ)) (buffer : List ℕ) (count : ℕ) → length buffer ≡ 1 → count ≢ 0 → Consumes first second (take count buffer)
+    → Consumes first second (get_or buffer 0 0 ∷ [])
+byte_taken first second buffer count one some taken = rw (one_byte buffer count one some) at taken
 
--- none was
-pub nothing_read : (first second third : Option (List ℕ)) (line buffer : List ℕ) → Consumes first second line → Consumes second third (take 0 buffer)
-    → Consumes first third line
-nothing_read first second third line buffer before more = rw append-nil at (Consumes-trans first second third line [] before more)
+pub none_taken : (first second : Option (List ℕ)) (buffer : List ℕ) → Consumes first second (take 0 buffer) → Consumes first second []
+none_taken first second buffer taken = taken
+
+pub kept_none : (first second : Option (List ℕ)) → Keeps first second → Consumes first second []
+kept_none first second kept = Consumes-kept first first second [] (Consumes-nil first) kept
+
+-- one more byte was read, or none
+pub line_more : (first second third : Option (List ℕ)) (line : List ℕ) (byte : ℕ) → Consumes first second line → Consumes second third (byte ∷ [])
+    → Consumes first third (line ++ byte ∷ [])
+line_more first second third line byte before more = Consumes-trans first second third line (byte ∷ []) before more
+
+pub nothing_more : (first second third : Option (List ℕ)) (line : List ℕ) → Consumes first second line → Consumes second third [] → Consumes first third line
+nothing_more first second third line before more = rw append-nil at (Consumes-trans first second third line [] before more)
 
 pub part_read : (first second : Option (List ℕ)) (line : List ℕ) → IsLine line → Consumes first second line → ReadsPart first second
 part_read first second line is reads = record { part = line; is_line = is; reads = reads }
+
+pub part_more : (first second third : Option (List ℕ)) (line : List ℕ) (byte : ℕ) → IsLine line → byte ≢ 10 → Consumes first second line
+    → Consumes second third (byte ∷ []) → ReadsPart first third
+part_more first second third line byte is other before more =
+    part_read first third (line ++ byte ∷ []) (more_of_line line byte is other) (line_more first second third line byte before more)
 
 -- what becomes of the one who replies, by the names of its streams, the events and what is known of the streams
 abbrev pub Gives : {A : Type 0} → (A → ℕ) → (A → ℕ) → (A → OpenEvents) → (A → Option (List ℕ)) → (A → Option (List ℕ)) → A → WantedView → ReplyView → A → Type 0

@@ -5,7 +5,8 @@ ghost use Rattle.command_line.specs.Replies.{IsLineList, IsLineName, IsParted, S
 ghost use Rattle.hex.specs.Hex.{decode_of};
 ghost use Rattle.routine_judge.specs.OutsideViews.{ReplyView as AReply};
 ghost use Rattle.std.specs.List.{AllZip, flat_map, list_all};
-ghost use Rattle.std.specs.Prelude.{◌≡◌, ◌≢◌, ◌<◌, ◌≤◌, ◌++◌, ◌∷◌, [], ℕ, List, Ok, All, IfErr, IfNone, IfOk, IfSome, MatchOption, OnOk, length};
+ghost use Rattle.std.specs.Prelude.{◌≡◌, ◌≢◌, ◌<◌, ◌≤◌, ◌++◌, ◌∷◌, [], ℕ, List, Ok, All, IfErr, IfNone, IfOk, IfSome, MatchOption, OnErr, OnOk, length};
+ghost use Rattle.std.specs.Io.KnownBytes.{Consumes, IsAtEnd};
 ghost use Rattle.text.specs.Grammar.{words as listed};
 ghost use Rattle.text.specs.Words.{words};
 ghost use Rattle.trace_file.specs.Ranks.{AreInOrder};
@@ -13,6 +14,7 @@ ghost use Rattle.trace_file.specs.Ranks.{AreInOrder};
 use crate::failure::{Failure, Refusal};
 use crate::image::place_of;
 use crate::streams::read_uninterrupted;
+use debugger::Failed;
 use hex::FromHexError;
 use routine_judge::Reply;
 use std::alloc::{AllocError, Global};
@@ -43,25 +45,39 @@ pub(crate) fn read_reply<R: Read>(
 }
 
 /// The next line without its LF. Nothing is read behind it.
-#[tactic(auto, using(crate::proofs::Asked::line_begun, crate::proofs::Asked::no_ends, crate::proofs::Asked::more_of_line, crate::proofs::Asked::byte_read, crate::proofs::Asked::nothing_read, crate::proofs::Asked::part_read))]
+#[tactic(auto, using(crate::proofs::Asked::line_begun, crate::proofs::Asked::no_ends, crate::proofs::Asked::more_of_line, crate::proofs::Asked::line_more, crate::proofs::Asked::nothing_more, crate::proofs::Asked::part_read))]
 fn read_line<R: Read>(alloc: Global, input: &mut R) -> Result<Vec<u8>, Failure>
     ensures ok { IfOk result (λ line. ReadsLine (R.remaining input.old) (R.remaining input.new) line.items) }
     ensures err { IfErr result (LacksLine (R.remaining input.old) (R.remaining input.new)) }
 {
     let mut line = Vec::new(alloc);
     for _ in 0..u64::MAX {
-        let mut byte = [0u8; 1];
-        match read_uninterrupted(input, &mut byte) {
-            Ok(0) => return Err(Failure::Refused(Refusal::NoReply)),
-            Ok(_) if byte[0] == b'\n' => return Ok(line),
-            Ok(_) => match add(&mut line, byte[0]) {
+        match read_byte(input) {
+            Ok(Some(b'\n')) => return Ok(line),
+            Ok(Some(byte)) => match add(&mut line, byte) {
                 Ok(()) => {}
                 Err(_) => return Err(Failure::Memory),
             },
+            Ok(None) => return Err(Failure::Refused(Refusal::NoReply)),
             Err(_) => return Err(Failure::File),
         }
     }
     Err(Failure::Memory)
+}
+
+/// The next byte; None at the end.
+#[tactic(auto, using(crate::proofs::Asked::byte_taken, crate::proofs::Asked::none_taken, crate::proofs::Asked::kept_none))]
+fn read_byte<R: Read>(input: &mut R) -> Result<Option<u8>, Failed>
+    ensures byte { IfOk result (λ found. MatchOption found (Consumes (R.remaining input.old) (R.remaining input.new) [] × IsAtEnd (R.remaining input.new))
+        (λ byte. Consumes (R.remaining input.old) (R.remaining input.new) (byte ∷ []))) }
+    ensures err { OnErr result (Consumes (R.remaining input.old) (R.remaining input.new) []) }
+{
+    let mut byte = [0u8; 1];
+    match read_uninterrupted(input, &mut byte) {
+        Ok(0) => Ok(None),
+        Ok(_) => Ok(Some(byte[0])),
+        Err(failed) => Err(failed),
+    }
 }
 
 fn add(line: &mut Vec<u8>, byte: u8) -> Result<(), AllocError>
