@@ -20,10 +20,11 @@ use Rattle.routine_judge.specs.declared.outside.fault.OutsideFault.TheVariants.{
 use Rattle.store_trace.specs.Marks.{begun}
 use Rattle.store_trace.specs.declared.event.Event.{Event}
 use Rattle.verdict.specs.declared.moment_verdict.verdict.Verdict.{Verdict}
-use Rattle.command_line.specs.Asking.{FailsReply, GivesReply, IsAskedVerdict, IsUnjudged, ReadsLine, ReadsPart, Streams}
+use Rattle.verdict.specs.declared.moment_verdict.verdict.Verdict.TheVariants as verdicts
+use Rattle.command_line.specs.Asking.{FailsReply, GivesReply, IsAskedVerdict, IsUnjudged, ReadsLine, ReadsPart, Streams, named_verdict}
 use Rattle.command_line.specs.Failures.{failure_of_judge}
 use Rattle.command_line.specs.Traces.{events_of, medium_of}
-use Rattle.command_line.specs.Verdicts.{first_of, last_of}
+use Rattle.command_line.specs.Verdicts.{first_of, last_of, verdict_status}
 use Rattle.command_line.specs.declared.events.OpenEvents.{OpenEvents}
 use Rattle.command_line.specs.declared.failure.Failure.{Failure}
 use Rattle.command_line.specs.declared.opened.OpenAsk.{OpenAsk}
@@ -118,7 +119,7 @@ pub found_verdict : {A : Type 0} (one other : A → ℕ) (opened : A → OpenEve
     (verdict : Verdict OutsideCause) → opened old ≡ ask.events
     → AreSound Never (events_of ask.events) (length (events_of ask.events)) → begun (events_of ask.events) ≢ []
     → IsOutsideVerdict (Gives one other opened input output) (medium_of ask.events) (events_of ask.events) (first_of ask.command.moments)
-        (last_of ask.command.moments) old new verdict
+    (last_of ask.command.moments) old new verdict
     → IsAskedVerdict ask (input old, output old) (input new, output new) verdict
 found_verdict one other opened input output ask old new verdict told sound begins is = record {
   sound = sound;
@@ -160,9 +161,9 @@ pub found_failure : {A : Type 0} (one other : A → ℕ) (opened : A → OpenEve
     → HasNoReply (Gives one other opened input output) (Fails one other opened input output) (medium_of ask.events) (events_of ask.events) old new failure
     → IsUnjudged ask (input old, output old) (input new, output new) failure
 found_failure one other opened input output ask old new failure told is = inr (inr (
-  subst (λ (o : OpenEvents). HasNoReply (GivesReply o) (FailsReply o) (medium_of ask.events) (events_of ask.events) (input old, output old) (input new, output new) failure)
-  told (no_reply_seen one other opened input output (medium_of ask.events) (events_of ask.events) old new failure is)
-))
+    subst (λ (o : OpenEvents). HasNoReply (GivesReply o) (FailsReply o) (medium_of ask.events) (events_of ask.events) (input old, output old) (input new, output new) failure)
+    told (no_reply_seen one other opened input output (medium_of ask.events) (events_of ask.events) old new failure is)
+    ))
 
 -- or since nothing is judged, or memory is refused
 pub fault_stays : {A : Type 0} (one other : A → ℕ) (opened : A → OpenEvents) (input output : A → Option (List ℕ)) (start : List (List ℕ))
@@ -176,7 +177,7 @@ pub found_fault : {A : Type 0} (one other : A → ℕ) (opened : A → OpenEvent
     (fault : JudgeFault) → opened old ≡ ask.events
     → AreSound Never (events_of ask.events) (length (events_of ask.events)) → begun (events_of ask.events) ≢ []
     → IsMissing (Gives one other opened input output) (Fails one other opened input output) (medium_of ask.events) (events_of ask.events)
-        (first_of ask.command.moments) old new (Judge fault)
+    (first_of ask.command.moments) old new (Judge fault)
     → IsUnjudged ask (input old, output old) (input new, output new) (failure_of_judge fault)
 found_fault one other opened input output ask old new (faults.Marks fault) told sound begins is = absurd is
 found_fault one other opened input output ask old new faults.NoSuchMoment told sound begins is = inl (record {
@@ -202,3 +203,11 @@ refused_ask ask streams fault is = inl (record {
   told = record { fault = fault; told = refl; found = refused_from Never (events_of ask.events) (first_of ask.command.moments) fault is };
   untouched = refl;
 })
+
+-- the names of lines don't change a verdict's status
+pub same_status : (name : ℕ → ℕ) (verdict : Verdict OutsideCause) → verdict_status (named_verdict name verdict) ≡ verdict_status verdict
+same_status name (verdicts.Pass moments images) = refl
+same_status name (verdicts.Open moments images open') = refl
+same_status name (verdicts.Fail moment image cause of_too_many) = refl
+same_status name (verdicts.TooMany moment lines) = refl
+same_status name (verdicts.TooLong moment) = refl

@@ -136,8 +136,8 @@ by_list items names ws rest word (Ok (Some ranks)) is only says = inr (word, is 
 by_list items names ws rest word (Ok None) is only none = λ ranks says. elim says [
   | inl all ↦ no_words _ rest (sym is ∙ all.0)
   | inr list ↦
-    let same = sym (other_words _ _ rest (list.0 ∷ []) (sym is ∙ list.1)) ∙ only in
-    none ranks (subst (λ (w : List ℕ). IsLineList names w ranks) (first_word list.0 word [] [] same) list.2)
+      let same = sym (other_words _ _ rest (list.0 ∷ []) (sym is ∙ list.1)) ∙ only in
+      none ranks (subst (λ (w : List ℕ). IsLineList names w ranks) (first_word list.0 word [] [] same) list.2)
 ]
 by_list items names ws rest word (Err e) is only says = tt
 

@@ -47,7 +47,10 @@ pub(crate) fn open_ask<F: Files>(
     ensures ready { IfOk result IsOpenAsk }
 {
     let start = start_trace(alloc, &command.events, files)?;
-    let OpenStart { events, bytes: _bytes } = start;
+    let OpenStart {
+        events,
+        bytes: _bytes,
+    } = start;
     Ok(OpenAsk { command, events })
 }
 
@@ -289,6 +292,7 @@ fn named_mend(events: &OpenEvents, mend: Mend) -> Mend
 }
 
 /// What is printed of the verdict, by the names of the events' lines, and its status.
+#[tactic(auto, using(crate::proofs::Asked::same_status))]
 fn asked_answer(
     alloc: Global,
     ask: &OpenAsk,
