@@ -7,12 +7,12 @@ use Rattle.routine_judge.proofs.outside.answering.Wanted.line.Goals as goal
 pub line-requires-clause-number : goal.line-requires-clause-number
 line-requires-clause-number c =
     let i = c.self.inside in
-    let most = (numbers_in i.medium.now i.index.events i.moment i.numbers.now c.self.invariant.2).most c.args.line in
+    let most = (numbers_in i.medium.now i.index.now.events i.moment i.numbers.now c.self.invariant.2).most c.args.line in
     omega (arith, most)
 
 pub returns : goal.returns
 returns c =
     let i = c.self.inside in
     subst (λ (w : WantedView). c.line.result.now ≡ line_at (known_image w.start w.events w.numbers) c.args.line) c.self.view_is
-    (known_line i.index.start i.medium.now i.index.events i.numbers.now c.args.line _ c.line.result.now c.self.invariant.0
+    (known_line i.index.now.start i.medium.now i.index.now.events i.numbers.now c.args.line _ c.line.result.now c.self.invariant.0
     (subst (λ (w : WantedView). c.args.line < length w.start) (sym c.self.view_is) c.requires) c.index.ensures c.line.ensures.whole)
