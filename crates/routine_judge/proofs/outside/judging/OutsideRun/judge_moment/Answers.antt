@@ -68,8 +68,8 @@ returns-clause-ok g c =
     c.requires.there c.requires.known is.1 is.2 sought said)
     c.said.ensures
 
-pub returns-in_ok-numbers-in-Lacks-clause-ok : goal.returns-in_ok-numbers-in-Lacks-clause-ok
-returns-in_ok-numbers-in-Lacks-clause-ok g c =
+pub returns-in-Lacks-clause-ok : goal.returns-in-Lacks-clause-ok
+returns-in-Lacks-clause-ok g c =
     let i = c.self.inside in
     let v = c.self.invariant in
     let view = c.args.self.now in
