@@ -32,10 +32,10 @@ turn_passed : {A : Type 0} (gives : A → WantedView → ReplyView → A → Typ
     (next : ℕ) (replies : Replies) (now : A) (judged : Judged) (verdict : MomentVerdict OutsideCause) (passes : Bool) →
     IsGoing gives start events first end old next replies now → next ≢ end → IsJudgedSoFar start events replies.known.items next judged → judged ≡ Is verdict →
     (IsTrue passes ↔ (verdict ≡ moments.Pass)) → passes ≡ true → IsGoing gives start events first end old (next + 1) replies now
-turn_passed gives start events first end old next replies now judged verdict passes going not so is means yes =
+turn_passed gives start events first end old next replies now judged verdict passes going not so is means holds =
     going_passed gives start events first end old next replies now going not
     (subst (λ (j : Judged). IsJudgedSoFar start events replies.known.items next j)
-    (is ∙ ap (λ (v : MomentVerdict OutsideCause). Is v) (means.0 (true_of passes yes))) so)
+    (is ∙ ap (λ (v : MomentVerdict OutsideCause). Is v) (means.0 (true_of passes holds))) so)
 
 pub returns-in_err-opener-clause-err : goal.returns-in_err-opener-clause-err
 returns-in_err-opener-clause-err g c =

@@ -70,11 +70,7 @@ returns-clause-ok g c =
 
 pub returns-in-Lacks-clause-ok : goal.returns-in-Lacks-clause-ok
 returns-in-Lacks-clause-ok g c =
-    let i = c.self.inside in
-    let v = c.self.invariant in
     let view = c.args.self.now in
     let lacks = subst (λ (r : RightSoFar). IsRightSoFar view.start view.events c.args.replies.now.known.items c.args.moment r) c.in-Lacks.is c.in_ok-right.ensures in
-    asked_full view.start view.events c.args.replies.now.known.items c.in-Lacks.at _
-    (carried (λ lines es n. HasLines lines es) i.medium.now view.start i.trace.now.events view.events 0 0
-    (ap (λ (w : IndexView). w.start) c.self.view_is) (ap (λ (w : IndexView). w.events) c.self.view_is) refl v.4)
-    lacks c.in_ok-numbers-in-Lacks.ensures
+    asked_full view.start view.events c.args.replies.now.known.items c.in-Lacks.at c.in_ok-numbers-in-Lacks.numbers.items c.in_ok-numbers-in-Lacks.ensures.lines
+    lacks c.in_ok-numbers-in-Lacks.ensures.numbers
