@@ -142,6 +142,7 @@ pub going_all : {A : Type 0} (gives : A → WantedView → ReplyView → A → T
 going_all gives start events first end old next replies now is all = record {
   replies = replies.known.items;
   asked = is.asked;
+  failing = tt;
   found_is = λ recovery gave. subst (λ (n : ℕ). PassBetween (IsOutsideMoment recovery start events replies.known.items) first n) all (is.passed recovery gave);
 }
 
@@ -155,15 +156,13 @@ going_failed gives start events first end old next replies now verdict is not ba
     record {
       replies = replies.known.items;
       asked = is.asked;
-      found_is = λ recovery gave. (
-        bad,
-        record {
-          from = is.from;
-          there = omega (arith, within, not);
-          passed = is.passed recovery gave;
-          here = here recovery gave;
-        },
-      );
+      failing = bad;
+      found_is = λ recovery gave. record {
+        from = is.from;
+        there = omega (arith, within, not);
+        passed = is.passed recovery gave;
+        here = here recovery gave;
+      };
     }
 
 row_from : (judged : ℕ → MomentVerdict OutsideCause → Type 0) (events : List Event) (first : ℕ) (last : Option ℕ) (from end : ℕ) (row : Verdict OutsideCause) →
@@ -203,7 +202,7 @@ verdict_fails gives start events first last from end m verdict row old new f e i
   replies = is.replies;
   asked = is.asked;
   verdict_is = λ recovery gave. row_from (IsOutsideMoment recovery start events is.replies) events first last from end row f e
-      (at_least (IsOutsideMoment recovery start events is.replies) events from end m verdict row (is.found_is recovery gave).1 at);
+      (at_least (IsOutsideMoment recovery start events is.replies) events from end m verdict row (is.found_is recovery gave) at);
 }
 
 -- why there is no verdict

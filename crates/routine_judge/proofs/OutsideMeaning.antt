@@ -33,7 +33,7 @@ use Rattle.store_trace.specs.Stores.{stores}
 use Rattle.store_trace.specs.declared.crash_model.step.PersistenceStep.{PersistenceStep}
 use Rattle.store_trace.specs.declared.event.Event.{Event}
 use Rattle.verdict.specs.CutImages.{image_at}
-use Rattle.verdict.specs.Edges.{AreAllGood, AreTried}
+use Rattle.verdict.specs.Edges.{AreAllGood, AreTried, edges}
 use Rattle.verdict.specs.Verdicts.{IsLeastBad, IsMomentVerdict}
 use Rattle.verdict.specs.declared.moment_verdict.verdict.MomentVerdict.{MomentVerdict}
 use Rattle.verdict.specs.declared.moment_verdict.verdict.MomentVerdict.TheVariants as moments
@@ -163,7 +163,7 @@ said_judged recovery start events replies window m right (moments.TooMany (Some 
     let tried : AreTried (asks_all replies.lines.items) found (λ l. floor l (at_moment events m)) (λ l. stores l (at_moment events m)) v.2.0 = record {
       asked = v.2.1.asked;
       at_floors = v.2.1.at_floors;
-      good = all_good (Seeks start events replies.known.items m right) found _
+      good = all_good (Seeks start events replies.known.items m right) found (edges (λ l. floor l (at_moment events m)) (λ l. stores l (at_moment events m)) v.2.0)
           (λ k s. sought_means recovery start events replies.known.items window m right gave ok (image_at start events m k)
           (length_image start k (at_moment events m)) None s) v.2.1.good;
     } in

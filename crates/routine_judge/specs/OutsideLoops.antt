@@ -1,5 +1,5 @@
 -- Moments judged in turn, by replies that are asked for where they are needed.
-use Rattle.std.specs.Prelude.{◌≡◌, ◌≢◌, ℕ, ◌++◌, ◌<◌, List, [], ◌∷◌, Option, Some, None, length}
+use Rattle.std.specs.Prelude.{◌≡◌, ◌≢◌, ℕ, ◌++◌, ◌<◌, List, [], ◌∷◌, Option, Some, None, IfSome, length}
 use Rattle.routine_judge.specs.Outside.{AreRepliesOf, HasAsked, HasNoReply, IsOutsideMoment, Outside}
 use Rattle.routine_judge.specs.OutsideViews.{KnownView, ReplyView, WantedView}
 use Rattle.routine_judge.specs.declared.fault.JudgeFault.{JudgeFault}
@@ -17,13 +17,14 @@ use Rattle.verdict.specs.declared.moment_verdict.verdict.Verdict.TheVariants as 
 -- of the moments from `first` on that are below `end` this is the least that doesn't pass, and its verdict; None where all pass
 abbrev pub IsFirstFailing : (ℕ → MomentVerdict OutsideCause → Type 0) → ℕ → ℕ → Option (ℕ × MomentVerdict OutsideCause) → Type 0
 IsFirstFailing judged first end None = PassBetween judged first end
-IsFirstFailing judged first end (Some found) = (found.1 ≢ moments.Pass) × IsLeastMoment judged first end found.0 found.1
+IsFirstFailing judged first end (Some found) = IsLeastMoment judged first end found.0 found.1
 
 -- that, by the replies that were given meanwhile, whatever recovery gave them
 pub record IsSettled {A : Type 0} (gives : A → WantedView → ReplyView → A → Type 0) (start : List (List ℕ)) (events : List Event) (first end : ℕ)
     (old new : A) (found : Option (ℕ × MomentVerdict OutsideCause)) : Type 0 where
   pub replies : List KnownView
   pub asked : HasAsked gives start events old replies new
+  pub failing : IfSome found (λ failed. failed.1 ≢ moments.Pass)
   pub found_is : (recovery : Outside) → AreRepliesOf recovery start events replies →
       IsFirstFailing (IsOutsideMoment recovery start events replies) first end found
 

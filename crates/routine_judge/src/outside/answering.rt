@@ -64,7 +64,7 @@ impl<'a, 'b> Wanted<'a, 'b> {
         requires { line < length self.now.start }
         ensures { result.now ≡ line_at (known_image self.now.start self.now.events self.now.numbers) line }
     {
-        self.index.line(line, self.numbers[line as usize])
+        self.index.line(line, self.number(line))
     }
 
     /// The bytes of a line at the start.

@@ -5,7 +5,7 @@ ghost use Rattle.routine_judge.specs.MarkFaults.{AreSound};
 ghost use Rattle.routine_judge.specs.Outside.{IsAskedFor, IsOutsideVerdict};
 ghost use Rattle.routine_judge.specs.OutsideLoops.{IsAnswered, IsMissing, IsSettled, IsStopped, IsUnanswered, IsVerdictAt};
 ghost use Rattle.routine_judge.specs.OutsideTables.{AreKeptIn};
-ghost use Rattle.routine_judge.specs.Verdicts.{IsRefusal};
+ghost use Rattle.routine_judge.specs.Verdicts.{IsRefusal, judged_from};
 ghost use Rattle.routine_judge.specs.declared.history.overlap.Overlap.TheVariants.{Never};
 ghost use Rattle.std.specs.Prelude.{◌≡◌, ◌≢◌, ◌+◌, ◌≤◌, [], length, IfErr, IfOk, IfSome, OnOk};
 ghost use Rattle.store_trace.specs.Marks.{begun};
@@ -35,6 +35,8 @@ pub struct OutsideRun<'a> {
     pub(crate) trace: &'a Trace,
     pub(crate) index: TraceIndex<'a>,
     pub(crate) windows: Windows,
+    /// The number of lines of the medium.
+    lines: u32,
     /// The first moment that is judged.
     begin: u32,
 }
@@ -62,7 +64,8 @@ impl<'a> Model for OutsideRun<'a> {
         × AreWindows r.trace.now.events r.windows
         × AreSound Never r.trace.now.events (length r.trace.now.events)
         × (length r.trace.now.events ≤ 65536)
-        × (r.begin ≡ first_judged r.trace.now.events) };
+        × (r.begin ≡ first_judged r.trace.now.events)
+        × (r.lines ≡ length r.medium.now) };
 }
 
 impl<'a> OutsideRun<'a> {
@@ -96,13 +99,34 @@ impl<'a> OutsideRun<'a> {
         requires sound { AreSound Never trace.now.events (length trace.now.events) }
         ensures { IfOk result (λ run. run ≡ record { start = medium.now; events = trace.now.events }) }
     {
+        let index = TraceIndex::new(alloc, medium, trace)?;
+        let windows = Windows::of(alloc, trace)?;
+        let lines = index.lines();
+        let begin = first_judged(trace.events());
         Ok(OutsideRun {
             medium,
             trace,
-            index: TraceIndex::new(alloc, medium, trace)?,
-            windows: Windows::of(alloc, trace)?,
-            begin: first_judged(trace.events()),
+            index,
+            windows,
+            lines,
+            begin,
         })
+    }
+
+    /// The number of moments: one more than there are events.
+    fn moments(&self) -> u32
+        ensures count { result ≡ length self.now.events + 1 }
+        ensures most { result ≤ 65537 }
+    {
+        self.trace.events().len() as u32 + 1
+    }
+
+    /// Of the moments from `first` on that are below `end` the first that is judged; `end` where none is.
+    fn judged_from(&self, first: u32, end: u32) -> u32
+        ensures from { result ≡ judged_from self.now.events first end }
+        ensures most { result ≤ end }
+    {
+        first.max(self.begin).min(end)
     }
 
     /// The verdict on the moments from `first` to `last`, or to the last one of the run where none is given, that are judged: from the first
@@ -126,14 +150,17 @@ impl<'a> OutsideRun<'a> {
         if first as usize > self.trace.events().len() {
             return Err(OutsideFault::Judge(JudgeFault::NoSuchMoment));
         }
-        let end = end_at(last, self.trace.events().len() as u32 + 1);
-        let from = first.max(self.begin).min(end);
+        let end = end_at(last, self.moments());
+        let from = self.judged_from(first, end);
         let found = self.first_not_passing(rt, alloc, from, end, answering)?;
         match found {
-            None => Ok(Verdict::Pass {
-                moments: u64::from(end - from),
-                images: images_between(alloc, self.trace, from, end)?,
-            }),
+            None => {
+                let images = images_between(alloc, self.trace, from, end)?;
+                Ok(Verdict::Pass {
+                    moments: u64::from(end - from),
+                    images,
+                })
+            }
             Some((moment, verdict)) => Ok(verdict_at(moment, verdict)),
         }
     }
@@ -152,19 +179,21 @@ impl<'a> OutsideRun<'a> {
         ensures ok { IfOk result (IsSettled A.gives self.now.start self.now.events first end answering.old answering.new) }
         ensures err { IfErr result (IsStopped A.gives A.fails self.now.start self.now.events answering.old answering.new) }
     {
-        let mut opener = Opener::new(alloc, self.index.lines())?;
+        let mut opener = Opener::new(alloc, self.lines)?;
         let mut replies = Replies::none(alloc);
         let mut next = first;
         for _ in 0..u64::MAX {
             if next == end {
                 return Ok(None);
             }
-            match self.judge_moment(rt, alloc, &replies, &mut opener, next)? {
+            let judged = self.judge_moment(rt, alloc, &replies, &mut opener, next)?;
+            match judged {
                 Judged::Is(verdict) => {
-                    if !verdict.is_pass() {
+                    if verdict.is_pass() {
+                        next += 1;
+                    } else {
                         return Ok(Some((next, verdict)));
                     }
-                    next += 1;
                 }
                 Judged::Asks { moment, numbers } => {
                     self.ask(answering, &mut replies, moment, numbers)?;

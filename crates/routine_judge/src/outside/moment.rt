@@ -1,5 +1,6 @@
 //! A moment as the replies so far judge it.
 
+ghost use Rattle.crash_image.specs.View.{HasLines};
 ghost use Rattle.routine_judge.specs.Images.{full_cut};
 ghost use Rattle.routine_judge.specs.Outside.{HasNoneOn};
 ghost use Rattle.routine_judge.specs.OutsideJudging.{AreAllStores, AreNumbersOf, IsJudgedSoFar, IsRightOfTwo, IsRightSoFar, IsSaid, IsWordOf, SaysCause};
@@ -170,7 +171,8 @@ impl OutsideRun<'_> {
     /// How many stores each line has in the full image of a moment.
     fn full_numbers(&self, alloc: Global, moment: u32) -> Result<Vec<u32>, AllocError>
         requires { moment ≤ length self.now.events }
-        ensures { IfOk result (λ numbers. AreAllStores self.now.start self.now.events moment numbers.items) }
+        ensures numbers { IfOk result (λ numbers. AreAllStores self.now.start self.now.events moment numbers.items) }
+        ensures lines { HasLines self.now.start self.now.events }
     {
         let mut numbers = Vec::new(alloc);
         for line in 0..self.index.lines() {

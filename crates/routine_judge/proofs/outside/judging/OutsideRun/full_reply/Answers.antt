@@ -1,4 +1,4 @@
-use Rattle.std.proofs.Common.{◌≡◌, ◌∙◌, ℕ, List, Option, Some, None, ap, refl, subst}
+use Rattle.std.proofs.Common.{◌≡◌, ◌∙◌, ℕ, List, Option, Some, None, ap, length, refl, subst}
 use Rattle.std.specs.Prelude.{IfNone, IfSome}
 use Rattle.crash_image.specs.TraceIndexView.{IndexView}
 use Rattle.routine_judge.proofs.OutsideAsking.{carried}
@@ -6,6 +6,8 @@ use Rattle.routine_judge.specs.Images.{full_cut}
 use Rattle.routine_judge.specs.Outside.{HasNoneOn}
 use Rattle.routine_judge.specs.OutsideTables.{IsReplyAt}
 use Rattle.routine_judge.specs.OutsideViews.{KnownView}
+use Rattle.store_trace.proofs.Images.{length_image}
+use Rattle.store_trace.specs.History.{at_moment}
 use Rattle.store_trace.specs.declared.event.Event.{Event}
 use Rattle.verdict.proofs.CutLines.{images_of}
 use Rattle.verdict.specs.CutImages.{image_at}
@@ -65,3 +67,11 @@ returns-clause-none c =
     none_full c.find.result c.args.replies.now.known.items c.new-image.result i.index.start c.args.self.now.start i.index.events c.args.self.now.events c.args.moment
     (full_of cuts.index.now i.index cuts.moment c.args.moment c.new-image.result c.new-cuts.ensures.index c.new-cuts.ensures.moment c.new-image.ensures)
     (v.0 ∙ ap (λ (w : IndexView). w.start) c.self.view_is) (v.1 ∙ ap (λ (w : IndexView). w.events) c.self.view_is) c.find.ensures.none
+
+pub find-requires-clause-size : goal.find-requires-clause-size
+find-requires-clause-size c =
+    let cuts = c.new-cuts.result in
+    let index = cuts.index.now in
+    ap (λ (medium : List (List ℕ)). length medium) c.new-image.ensures
+    ∙ length_image index.start (full_cut index.events cuts.moment) (at_moment index.events cuts.moment)
+    ∙ ap (λ (x : IndexView). length x.start) c.new-cuts.ensures.index

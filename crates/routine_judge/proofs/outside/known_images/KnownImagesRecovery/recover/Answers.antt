@@ -27,3 +27,27 @@ find-requires-clause-size c =
     let p = at_moment cuts.index.now.events cuts.moment in
     ap (λ (medium : List (List ℕ)). length medium) c.new-image.ensures
     ∙ length_image cuts.index.now.start (number_over (λ l. floor l p) c.args.numbers.now) p
+
+pub returns-in-Some-clause-below : goal.returns-in-Some-clause-below
+returns-in-Some-clause-below c =
+    let s = c.args.self.now in
+    let count = length s.cuts.now.index.now.start in
+    subst (λ (qs : List Question). AllByRecursion (λ q. q.line < count) qs)
+    (sym (asked_here s.replies.now.lines.items _ c.args.asked.now.items _ c.deref.ensures.value c.requires.fresh c.in_ok-ask_whole.ensures))
+    (whole_below count s.replies.now.lines.items s.known.there)
+
+pub returns-in-None-clause-below : goal.returns-in-None-clause-below
+returns-in-None-clause-below c =
+    let s = c.args.self.now in
+    let count = length s.cuts.now.index.now.start in
+    subst (λ (qs : List Question). AllByRecursion (λ q. q.line < count) qs)
+    (sym (asked_here s.replies.now.lines.items _ c.args.asked.now.items _ c.deref.ensures.value c.requires.fresh c.in_ok-ask_whole.ensures))
+    (whole_below count s.replies.now.lines.items s.known.there)
+
+pub returns-in-Some-clause-judged : goal.returns-in-Some-clause-judged
+returns-in-Some-clause-judged c =
+    let s = c.args.self.now in
+    let index = s.cuts.now.index.now in
+    let w = c.in-Some.ensures.some in
+    subst (λ (medium : List (List ℕ)). IsSoughtOn index.start index.events s.replies.now.known.items s.right.now.answers.answers.items medium c.judge.result)
+    c.new-image.ensures (c.judge.ensures index.start c.new-image.result index.events w.0 w.1)
