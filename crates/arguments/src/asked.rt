@@ -38,6 +38,8 @@ pub enum Command {
     /// `judge PROGRAM SCHEDULE RECOVERY [--medium FILE --harts N --steps N --workers N --atomic --states N --overlapping --recovery-cuts N --moments A-B --go-on --whole --why --json --progress --quiet]`,
     /// or `judge --trace FILE RECOVERY [--medium FILE --steps N --workers N --overlapping --moments A-B --go-on --whole --why --json --progress --quiet]`.
     Judge(JudgeCommand),
+    /// `judge --trace FILE --ask [--medium FILE --moments A-B --whole --why --json]`.
+    Ask(AskCommand),
     /// `check-all PLAN PROGRAM [--medium FILE --harts N --states N --any-end --why --json --progress]`.
     CheckAll(CheckAllCommand),
     /// `judge-all PROGRAM RECOVERY [--medium FILE --harts N --steps N --states N --any-end --why --json --progress]`.
@@ -266,6 +268,18 @@ pub struct JudgeCommand {
     /// How many power cuts in recovery are looked at, where the line has `--recovery-cuts`.
     pub cuts: Option<MostCuts>,
     pub judged: JudgedRun,
+}
+
+/// What `judge --ask` is to do: the answers of recovery are asked for on standard output, and read from standard input.
+#[derive(Drop)]
+pub struct AskCommand {
+    pub events: TracedEvents,
+    /// The moments that are judged; None: all are.
+    pub moments: Option<Moments>,
+    /// Whether it is told what a failing image lacks and keeps.
+    pub why: bool,
+    /// Whether each line of what is found is a JSON object.
+    pub json: bool,
 }
 
 /// How many power cuts `judge` looks at that come while recovery runs or after it has ended.

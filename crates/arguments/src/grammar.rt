@@ -103,6 +103,16 @@ const RECOVERY: Argument = Argument::Word {
     about: "The recovery routine's file: an ELF file, an object or a source",
 };
 
+const RECOVERY_OF_TRACE: Argument = Argument::Optional {
+    name: "RECOVERY",
+    about: "The source, object or ELF executable of the recovery routine, where the line hasn't --ask",
+};
+
+const ASK: Argument = Argument::Flag {
+    name: "ask",
+    about: "Ask for the answers of a recovery that runs outside: requests on standard output, replies on standard input",
+};
+
 const LINES: Argument = Argument::Word {
     name: "LINES",
     about: "The number of cache lines of the medium",
@@ -562,7 +572,8 @@ static JUDGING_OF_FILES: [Subcommand; 2] = [
         about: "Judge every crash image of a trace file by a recovery routine of one's own",
         arguments: &[
             TRACE,
-            RECOVERY,
+            RECOVERY_OF_TRACE,
+            ASK,
             MEDIUM_OF_TRACE,
             RECOVERY_STEPS,
             WORKERS,
@@ -575,7 +586,10 @@ static JUDGING_OF_FILES: [Subcommand; 2] = [
             PROGRESS,
             QUIET,
         ],
-        ending: ending!("judge --trace ring.trace ring-recovery.s --whole --why"),
+        ending: ending!(
+            "judge --trace ring.trace ring-recovery.s --whole --why",
+            "With --ask in place of RECOVERY it asks for the answers of any recovery: docs/FORMATS.md.\n\n"
+        ),
     },
 ];
 

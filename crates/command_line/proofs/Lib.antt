@@ -6,6 +6,9 @@ pub mod ImageLines
 mod Loops
 mod LostNames
 mod NumberedLines
+mod Replies
+mod Requests
+mod Asked
 mod Texts
 mod Unexplained
 mod Chains

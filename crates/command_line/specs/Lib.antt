@@ -1,6 +1,7 @@
 pub mod AllSchedules
 pub mod Answered
 pub mod Answering
+pub mod Asking
 pub mod Assembling
 pub mod Checking
 pub mod CheckingAll
@@ -38,7 +39,9 @@ pub mod Picturing
 pub mod Progress
 pub mod Reading
 pub mod MakingRuns
+pub mod Replies
 pub mod Reports
+pub mod Requests
 pub mod Running
 pub mod Showing
 pub mod Shown

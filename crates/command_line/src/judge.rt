@@ -350,7 +350,7 @@ pub(crate) fn judgement<'a>(judge: &'a OpenJudge, rule: Rule<'a>) -> Judgement<'
 }
 
 /// Whether the verdict is on no moment.
-fn judges_none<C>(verdict: &Verdict<C>) -> bool
+pub(crate) fn judges_none<C>(verdict: &Verdict<C>) -> bool
     ensures { result ≡ judges_none verdict.now }
 {
     matches!(verdict, Verdict::Pass { moments: 0, .. })
