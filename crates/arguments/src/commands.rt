@@ -445,6 +445,7 @@ pub(crate) fn judge(alloc: Global, found: &ArgMatches<'_>) -> Result<Command, Li
         right,
         states,
         cuts,
+        answers: flag(found, "answers"),
         judged,
     }))
 }

@@ -20,6 +20,7 @@ mod failure;
 mod failures;
 mod file_names;
 mod files;
+mod full_answers;
 mod greatest;
 mod image;
 mod images;

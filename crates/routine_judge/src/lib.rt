@@ -48,7 +48,7 @@ pub use order::{
     sequential_states_stand,
 };
 pub use right::RightAnswers;
-pub use right_moments::{RightAnswer, right_answers};
+pub use right_moments::{FullAnswers, RightAnswer, full_answers, right_answers};
 pub use rule::{ProgramRuns, Rule};
 pub use run::MarkedRun;
 pub use verdict::{ImageName, ImagesVerdict, MomentVerdict, Verdict};
