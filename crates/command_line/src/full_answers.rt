@@ -44,11 +44,7 @@ fn are_asked(judge: &OpenJudge, answer: &Answer) -> bool
 }
 
 /// What the routine comes to on the full images of all moments of the events.
-fn full_answers_of(
-    alloc: Global,
-    judge: &OpenJudge,
-    rule: Rule<'_>,
-) -> Result<FullAnswers, Failure>
+fn full_answers_of(alloc: Global, judge: &OpenJudge, rule: Rule<'_>) -> Result<FullAnswers, Failure>
     requires open { IsOpen judge.now }
     requires rule { IsRuleOf judge.now rule }
     ensures { MatchResult result (AreFullAnswers (view_asked judge.now)) (IsRefused judge.now 0) }

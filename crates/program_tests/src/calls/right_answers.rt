@@ -2,7 +2,8 @@
 
 use crate::calls::starts::{loaded, run_of};
 use crash_test::{
-    Events, FullAnswers, Judgement, RightAnswer, RoutineReader, answer_at, full_answers, right_answers,
+    Events, FullAnswers, Judgement, RightAnswer, RoutineReader, answer_at, full_answers,
+    right_answers,
 };
 use machine::Run;
 use program::Program;
