@@ -1,5 +1,5 @@
 -- The right answers of some moments, each with the moment that gives it, one moment more.
-use Rattle.std.proofs.Common.{◌≡◌, ◌||◌, ◌==◌, ◌⊎◌, ℕ, ◌+◌, ◌<◌, ◌≤◌, Bool, true, false, nat_le, nat_lt, inl, inr, refl, List, [], ◌∷◌, ◌++◌, length, length-append, get_or, sym, subst, ◌∙◌, arith, Result, Ok, Err, eqb-true}
+use Rattle.std.proofs.Common.{◌≡◌, ◌||◌, ◌==◌, ◌⊎◌, ℕ, ◌+◌, ◌<◌, ◌≤◌, Bool, true, false, nat_le, nat_lt, inl, inr, refl, List, [], ◌∷◌, ◌++◌, length, length-append, get_or, ap, sym, subst, ◌∙◌, arith, Result, Ok, Err, eqb-true}
 use Rattle.std.specs.Prelude.{◌&&◌}
 use Rattle.std.specs.List.{All, AllPairs, Any}
 use Rattle.std.proofs.lemmas.Bool.{cases_eq}
@@ -196,7 +196,9 @@ among_within view m i (Through first last) there is either through t =
 
 -- all moments of the run, as those of a window
 pub all_inside : (count m i : ℕ) → is_among (Through 0 count) m i ≡ true → i < count + 1
-all_inside count m i t = grind (arith, nat_tests, t)
+all_inside count m i t =
+    let e : i ≤ count = grind (arith, nat_tests, t) in
+    omega (arith, e)
 
 pub all_alike : (count m i : ℕ) → is_among (Through 0 count) m i ≡ nat_le i count
 all_alike count m i = grind (arith, nat_tests)
@@ -204,4 +206,4 @@ all_alike count m i = grind (arith, nat_tests)
 pub full_given : (view : JudgeView) (last m : ℕ) (right : List RightAnswer) → last ≡ length view.events → AreGivenBy view (is_among (Through 0 last) m) right →
     AreGivenBy view (is_moment view) right
 full_given view last m right is are =
-    given_alike view (is_among (Through 0 last) m) (is_moment view) right (λ i. all_alike last m i ∙ (rw is refl)) are
+    given_alike view (is_among (Through 0 last) m) (is_moment view) right (λ i. all_alike last m i ∙ ap (λ (n : ℕ). nat_le i n) is) are
