@@ -5,7 +5,7 @@ ghost use Rattle.command_line.specs.Judging.{IsOpen, IsRuleOf};
 ghost use Rattle.command_line.specs.ToldAnswers.{IsRefused, view_asked};
 ghost use Rattle.command_line.specs.declared.failure.Failure.TheVariants.{Memory};
 ghost use Rattle.routine_judge.specs.RightMoments.{AreFullAnswers};
-ghost use Rattle.std.specs.Prelude.{◌≡◌, ◌++◌, ◌×◌, IfOk, MatchResult, string_bytes};
+ghost use Rattle.std.specs.Prelude.{◌≡◌, ◌++◌, IfOk, MatchResult, string_bytes};
 
 use crate::answer::Answer;
 use crate::failure::Failure;
@@ -27,7 +27,7 @@ pub(crate) fn with_full_answers(
 ) -> Result<Answer, Failure>
     requires open { IsOpen judge.now }
     requires rule { IsRuleOf judge.now rule }
-    ensures { TellsFull judge.now answer.entry result }
+    ensures { TellsFull judge.now answer result }
 {
     if !are_asked(judge, &answer) {
         return Ok(answer);
@@ -58,7 +58,7 @@ fn full_answers_of(alloc: Global, judge: &OpenJudge, rule: Rule<'_>) -> Result<F
 
 /// The answer with a text behind it.
 fn followed_by(answer: Answer, text: String) -> Result<Answer, AllocError>
-    ensures { IfOk result (λ told. (told.text.items ≡ answer.entry.text.items ++ string_bytes text) × (told.status ≡ answer.entry.status)) }
+    ensures { IfOk result (λ told. (told.text.items ≡ answer.text.items ++ string_bytes text) × (told.status ≡ answer.status)) }
 {
     let Answer {
         text: mut bytes,
