@@ -5,7 +5,7 @@ use Rattle.every_schedule.specs.declared.sequential.Sequential.{Sequential}
 use Rattle.every_schedule.specs.declared.sequential.Sequential.TheVariants as known
 use Rattle.command_line.specs.AllSchedules.{told_bound}
 use Rattle.command_line.specs.CutVerdicts.{cuts_asked}
-use Rattle.command_line.specs.FullAnswers.{TellsFull}
+use Rattle.command_line.specs.ToldFull.{TellsFull}
 use Rattle.command_line.specs.Judging.{FindsRuns}
 use Rattle.command_line.specs.JudgingCuts.{JudgesCuts}
 use Rattle.command_line.specs.JudgingOnce.{JudgesOnce}

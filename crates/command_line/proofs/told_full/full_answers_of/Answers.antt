@@ -1,6 +1,6 @@
 -- The answers on all full images by the judgement that is asked for.
 use Rattle.command_line.proofs.RightTold.{full_told}
-use Rattle.command_line.proofs.full_answers.full_answers_of.Goals as goal
+use Rattle.command_line.proofs.told_full.full_answers_of.Goals as goal
 
 pub returns : goal.returns
 returns c =

@@ -1,9 +1,8 @@
 //! What is told behind a pass of the answers of a recovery routine on the full images of all moments.
 
-ghost use Rattle.command_line.specs.FullAnswers.{TellsAlso, TellsFull, are_asked, full_text, shown_answer, shown_cause, shown_last};
+ghost use Rattle.command_line.specs.ToldFull.{TellsFull, are_asked, full_text, shown_answer, shown_cause, shown_last};
 ghost use Rattle.command_line.specs.Judging.{IsOpen, IsRuleOf};
 ghost use Rattle.command_line.specs.ToldAnswers.{IsRefused, view_asked};
-ghost use Rattle.command_line.specs.declared.failure.Failure.TheVariants.{Memory};
 ghost use Rattle.routine_judge.specs.RightMoments.{AreFullAnswers};
 ghost use Rattle.std.specs.Prelude.{◌≡◌, ◌++◌, IfOk, MatchResult, string_bytes};
 
