@@ -189,13 +189,14 @@ AreCutsOf (sources.Run run) cuts = ⊤
 AreCutsOf (sources.Trace events) cuts = cuts ≡ None
 
 -- `judge` of these events by this recovery routine, so many steps of it on an image, the answers of it that are right, at most so many states of the
--- search for sequential runs, and so many power cuts in recovery
+-- search for sequential runs, so many power cuts in recovery, and whether the answers on full images are told
 pub record IsJudge (rows : List Row) (command : JudgeCommand) : Type 0 where
   pub recovery : IsWord (codes "RECOVERY") rows command.recovery
   pub steps : IsRecoverySteps rows command.steps
   pub right : IsRight rows command.right
   pub states : IsStates rows command.states
   pub cuts : IsOptionalCuts (first_of (codes "recovery-cuts") rows) command.cuts
+  pub answers : command.answers ≡ is_set (first_of (codes "answers") rows)
   pub judged : IsJudgedRun rows command.judged
   pub of_run : IsRightOf command.judged.source command.right
   pub cuts_of_run : AreCutsOf command.judged.source command.cuts
@@ -209,6 +210,7 @@ pub record AsksAlone (rows : List Row) : Type 0 where
   pub overlapping : is_set (first_of (codes "overlapping") rows) ≡ false
   pub goes_on : is_set (first_of (codes "go-on") rows) ≡ false
   pub progress : is_set (first_of (codes "progress") rows) ≡ false
+  pub answers : is_set (first_of (codes "answers") rows) ≡ false
 
 -- `judge --ask` of these events of a trace file, these moments of them or all, whether a failing image is explained, as text or as JSON
 pub record IsAsk (rows : List Row) (command : AskCommand) : Type 0 where

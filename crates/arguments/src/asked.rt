@@ -35,8 +35,8 @@ pub enum Command {
     /// `check PLAN PROGRAM SCHEDULE [--medium FILE --harts N --workers N --moments A-B --go-on --whole --why --json --progress --quiet]`, or
     /// `check PLAN --trace FILE [--medium FILE --workers N --moments A-B --go-on --whole --why --json --progress --quiet]`.
     Check(CheckCommand),
-    /// `judge PROGRAM SCHEDULE RECOVERY [--medium FILE --harts N --steps N --workers N --atomic --states N --overlapping --recovery-cuts N --moments A-B --go-on --whole --why --json --progress --quiet]`,
-    /// or `judge --trace FILE RECOVERY [--medium FILE --steps N --workers N --overlapping --moments A-B --go-on --whole --why --json --progress --quiet]`.
+    /// `judge PROGRAM SCHEDULE RECOVERY [--medium FILE --harts N --steps N --workers N --atomic --states N --overlapping --recovery-cuts N --moments A-B --go-on --whole --why --answers --json --progress --quiet]`,
+    /// or `judge --trace FILE RECOVERY [--medium FILE --steps N --workers N --overlapping --moments A-B --go-on --whole --why --answers --json --progress --quiet]`.
     Judge(JudgeCommand),
     /// `judge --trace FILE --ask [--medium FILE --moments A-B --whole --why --json]`.
     Ask(AskCommand),
@@ -267,6 +267,8 @@ pub struct JudgeCommand {
     pub states: u32,
     /// How many power cuts in recovery are looked at, where the line has `--recovery-cuts`.
     pub cuts: Option<MostCuts>,
+    /// Whether the answers on the full images of all moments are told behind a pass.
+    pub answers: bool,
     pub judged: JudgedRun,
 }
 

@@ -463,6 +463,7 @@ fn judge_by_routine(alloc: Global, found: &ArgMatches<'_>) -> Result<Command, Li
         right,
         states,
         cuts,
+        answers: flag(found, "answers"),
         judged,
     }))
 }
@@ -499,7 +500,10 @@ fn demand_alone(alloc: Global, found: &ArgMatches<'_>) -> Result<(), LineFault>
     if is_given(found, "RECOVERY") || is_given(found, "steps") || is_given(found, "workers") {
         return Err(not_alone(alloc)?);
     }
-    if flag(found, "overlapping") || flag(found, "go-on") || flag(found, "progress") {
+    if flag(found, "overlapping") || flag(found, "go-on") {
+        return Err(not_alone(alloc)?);
+    }
+    if flag(found, "progress") || flag(found, "answers") {
         return Err(not_alone(alloc)?);
     }
     Ok(())

@@ -332,6 +332,11 @@ const PROGRESS: Argument = Argument::Flag {
     about: "Tell on standard error how far the check has come, at most twice a second",
 };
 
+const ANSWERS: Argument = Argument::Flag {
+    name: "answers",
+    about: "Behind a pass, print how many different answers RECOVERY gives where nothing is lost, and the last one",
+};
+
 const QUIET: Argument = Argument::Flag {
     name: "quiet",
     about: "With --whole, leave out the notes on standard error",
@@ -532,6 +537,7 @@ static JUDGING_OF_RUNS: [Subcommand; 2] = [
             GO_ON,
             WHOLE,
             WHY,
+            ANSWERS,
             JSON,
             PROGRESS,
             QUIET,
@@ -582,6 +588,7 @@ static JUDGING_OF_FILES: [Subcommand; 2] = [
             GO_ON,
             WHOLE,
             WHY,
+            ANSWERS,
             JSON,
             PROGRESS,
             QUIET,

@@ -21,6 +21,7 @@ pub mod CutReasons
 pub mod CutVerdicts
 pub mod JudgingCuts
 pub mod ToldAnswers
+pub mod ToldFull
 pub mod JudgingOnce
 pub mod JudgingRuns
 pub mod Judging

@@ -54,6 +54,7 @@ mod source_lines;
 mod streams;
 mod telling;
 mod told_answers;
+mod told_full;
 mod trace;
 mod unpersisted;
 mod upgrade;

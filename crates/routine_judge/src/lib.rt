@@ -50,7 +50,7 @@ pub use order::{
 };
 pub use outside::{Answering, OutsideCause, OutsideFault, OutsideRun, Reply, Wanted};
 pub use right::RightAnswers;
-pub use right_moments::{RightAnswer, right_answers};
+pub use right_moments::{FullAnswers, RightAnswer, full_answers, right_answers};
 pub use rule::{ProgramRuns, Rule};
 pub use run::MarkedRun;
 pub use verdict::{ImageName, ImagesVerdict, MomentVerdict, Verdict};
