@@ -118,10 +118,13 @@ fn full_answers_of(alloc: Global, run: &MarkedRun<'_>) -> Result<FullAnswers, Al
 {
     let mut routine = run.routine(alloc)?;
     let moment = run.moments() - 1;
-    let last = moment as usize;
-    let all = Window::Through { first: 0, last };
+    let end = moment as usize;
+    let last = run_full(alloc, run, &mut routine, end)?;
+    let all = Window::Through {
+        first: 0,
+        last: end,
+    };
     let given = given_by(alloc, run, &mut routine, all, moment)?;
-    let last = run_full(alloc, run, &mut routine, last)?;
     Ok(FullAnswers { given, last })
 }
 
