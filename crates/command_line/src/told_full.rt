@@ -1,6 +1,6 @@
 //! What is told behind a pass of the answers of a recovery routine on the full images of all moments.
 
-ghost use Rattle.command_line.specs.ToldFull.{TellsFull, are_asked, full_text, shown_answer, shown_cause, shown_last};
+ghost use Rattle.command_line.specs.ToldFull.{IsFullRefused, TellsAlso, TellsFull, are_asked, full_text, shown_answer, shown_cause, shown_last};
 ghost use Rattle.command_line.specs.Judging.{IsOpen, IsRuleOf};
 ghost use Rattle.command_line.specs.ToldAnswers.{IsRefused, view_asked};
 ghost use Rattle.routine_judge.specs.RightMoments.{AreFullAnswers};
@@ -28,12 +28,28 @@ pub(crate) fn with_full_answers(
     requires rule { IsRuleOf judge.now rule }
     ensures { TellsFull judge.now answer result }
 {
-    if !are_asked(judge, &answer) {
-        return Ok(answer);
+    if are_asked(judge, &answer) {
+        answers_behind(alloc, judge, rule, answer)
+    } else {
+        Ok(answer)
     }
+}
+
+/// The answer, and behind it those.
+fn answers_behind(
+    alloc: Global,
+    judge: &OpenJudge,
+    rule: Rule<'_>,
+    answer: Answer,
+) -> Result<Answer, Failure>
+    requires open { IsOpen judge.now }
+    requires rule { IsRuleOf judge.now rule }
+    ensures { MatchResult result (TellsAlso judge.now answer) (IsFullRefused judge.now) }
+{
     let full = full_answers_of(alloc, judge, rule)?;
     let text = full_text(alloc, &full, judge.command.judged.json)?;
-    Ok(followed_by(answer, text)?)
+    let told = followed_by(answer, text)?;
+    Ok(told)
 }
 
 fn are_asked(judge: &OpenJudge, answer: &Answer) -> bool
