@@ -1,5 +1,5 @@
 -- The addresses that words stand for by the labels of a source, or the names of an executable: FILE:LINE, NAME, and NAME+0xOFF.
-use Rattle.std.specs.Prelude.{◌≡◌, ◌⊎◌, ◌+◌, ◌^◌, ◌<◌, ◌==◌, ◌++◌, ℕ, Bool, true, false, List, [], ◌∷◌, Option, Some, None, codes, if◌then◌else◌}
+use Rattle.std.specs.Prelude.{◌≡◌, ◌⊎◌, ◌+◌, ◌^◌, ◌<◌, ◌==◌, ◌++◌, ℕ, Bool, true, false, List, [], ◌∷◌, Option, Some, None, codes, if◌then◌else◌, is_some}
 use Rattle.std.specs.Str.Parse.{IsNumeral, digits_value}
 use Rattle.assemble.specs.Labels.{place_at}
 use Rattle.assemble.specs.declared.labels.Labels.{Labels}
@@ -79,12 +79,8 @@ abbrev pub IsLabelled : Labels → List ℕ → ℕ → Type 0
 IsLabelled labels word address = place_at labels word ≡ Some address
 
 -- a word is taken for a name: of a source a label, of an executable any word, and of another program none
-abbrev pub is_label : Option ℕ → Bool
-is_label None = false
-is_label (Some place) = true
-
 abbrev pub have_name : Places → List ℕ → Bool
-have_name (Source numbers labels) word = is_label (place_at labels word)
+have_name (Source numbers labels) word = is_some (place_at labels word)
 have_name (Executable lines functions) word = true
 have_name places word = false
 

@@ -46,6 +46,7 @@ impl Places<'_> {
 }
 
 /// The place of a label.
+#[tactic(auto, using(crate::proofs::Addresses::unplaced))]
 fn labelled_address(labels: &Labels<'_>, word: &[u8]) -> Option<u64>
     ensures { MatchOption result (HasNoAddress (IsLabelled labels.now word.now)) (IsLabelled labels.now word.now) }
 {
