@@ -157,7 +157,7 @@ place_said code parts word number spelled address = record { word = word; spelle
 pub no_place_word : (code : KnownCode) (parts : List (List ℕ)) (number : Number) → ((word : List ℕ) → parts ≢ word ∷ []) → ¬ (IsOnePlace code parts number)
 no_place_word code parts number none one = none one.word one.spelled
 
--- a name where the code has names, and what it stands for
+-- a word that the code takes for a name, and what it stands for
 pub place_named : (code : KnownCode) (parts : List (List ℕ)) (word : List ℕ) (number : Number) → parts ≡ word ∷ [] → ((n : Number) → ¬ (IsWritten word n))
     → code.named word ≡ true → Names code word number → IsOnePlace code parts number
 place_named code parts word number spelled none named stands = record { word = word; spelled = spelled; place = inr ((none, named), stands) }
