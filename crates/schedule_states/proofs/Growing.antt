@@ -21,6 +21,7 @@ pub grown_then : (old middle new : PartsView) → AreGrown old middle → AreGro
 grown_then old middle new a b = record {
   table = record { start = b.table.start ∙ a.table.start; grows = λ n s found. b.table.grows n s (a.table.grows n s found) };
   lists = λ n held found. b.lists n held (a.lists n held found);
+  claims = b.claims ∙ a.claims;
 }
 
 pub there_still : (old new : PartsView) (n : ℕ) → AreGrown old new → n < length old.lists → n < length new.lists
@@ -35,14 +36,14 @@ text_still middle new request lines before after grown same text = record {
       text.renewed h in (
         list.0,
         grown.lists after list.0 list.1,
-        ap (λ (t : TableView). text_of (memory_held (record { table = t; lists = new.lists }) list.0)) same ∙ list.2
-            ∙ sym (ap (λ (t : TableView). text_of (memory_held (record { table = t; lists = new.lists }) lines)) same),
+        ap (λ (t : TableView). text_of (memory_held (record { table = t; lists = new.lists; claims = new.claims }) list.0)) same ∙ list.2
+            ∙ sym (ap (λ (t : TableView). text_of (memory_held (record { table = t; lists = new.lists; claims = new.claims }) lines)) same),
       );
 }
 
 pub served_still : (old middle new : PartsView) (h : ℕ) (request : Request) (reply : Reply) (held lines : List HeldLine) → new.table ≡ middle.table →
     AreServed old middle h request reply held lines → AreServed old new h request reply held lines
-served_still old middle new h request reply held lines same served = subst (λ (t : TableView). AreServed old (record { table = t; lists = new.lists }) h request reply held lines)
+served_still old middle new h request reply held lines same served = subst (λ (t : TableView). AreServed old (record { table = t; lists = new.lists; claims = new.claims }) h request reply held lines)
     (sym same) (record { below = served.below; served = served.served })
 
 pub has_lists_after : (old new : PartsView) (s next : ProgramState) (h : ℕ) (own : HartPart) (request : Request) (reply : Reply) → AreGrown old new → HasLists old s →

@@ -1,4 +1,4 @@
-use Rattle.std.proofs.Common.{◌≡◌, ◌≢◌, ◌<◌, Some, [], length, slice_get, slice_index_or, refl, ◌∙◌, ap, sym, subst, arith}
+use Rattle.std.proofs.Common.{◌≡◌, ◌≢◌, ◌<◌, Some, [], length, slice_get, slice_index_or, refl, ◌∙◌, ap, sym, subst, arith, rules}
 use Rattle.std.proofs.lemmas.Result.{IfOk-weaker}
 use Rattle.std.proofs.lemmas.Option.{slice_get-get_or}
 use Rattle.hart.specs.declared.state.Status.TheVariants.{Running}
@@ -6,10 +6,11 @@ use Rattle.machine.specs.Histories.{text_of}
 use Rattle.schedule_states.proofs.Answered.{stopped_asks_not}
 use Rattle.schedule_states.proofs.Happening.{if_state}
 use Rattle.schedule_states.specs.Ahead.{IsNext}
+use Rattle.schedule_states.specs.Claims.{KeepsClaims, claim_in}
 use Rattle.schedule_states.specs.Successors.{IsAskingOf, memory_held}
 use Rattle.schedule_states.specs.declared.ahead.Next.TheVariants as nexts
 use Rattle.schedule_states.specs.declared.program_state.HartPart.{HartPart}
-use Rattle.schedule_states.proofs.parts.Parts.after_request.Goals as goal
+use Rattle.schedule_states.proofs.parts.Parts.after_one.Goals as goal
 
 pub returns-in-Stopped-clause-successor : goal.returns-in-Stopped-clause-successor
 returns-in-Stopped-clause-successor c =
@@ -34,5 +35,6 @@ returns-in-Asks-clause-asks c =
       spelled = next.1;
       request = next.2;
     } in
-    IfOk-weaker c.serve.result _ _ (λ found count. if_state found _ (record { hart = c.args.hart; part = c.index-part.result.now; instr = c.in-Asks.instr; request = c.in-Asks.request }, refl, asking))
+    let keeps : KeepsClaims (claim_in c.args.self.now.claims) c.args.hart c.in-Asks.request = search rules in
+    IfOk-weaker c.serve.result _ _ (λ found count. if_state found _ ((record { hart = c.args.hart; part = c.index-part.result.now; instr = c.in-Asks.instr; request = c.in-Asks.request }, refl, asking), keeps))
     c.serve.ensures.harts
