@@ -281,3 +281,4 @@ pub if_state : (found : Successor) (claim : Type 0) → claim → IfState found 
 if_state (successors.State next mark) claim is = is
 if_state successors.Stopped claim is = tt
 if_state successors.TooLong claim is = tt
+if_state (successors.Claimed line) claim is = tt

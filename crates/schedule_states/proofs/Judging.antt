@@ -24,7 +24,7 @@ use Rattle.schedule_states.proofs.Media.{media_kept}
 use Rattle.schedule_states.proofs.Putting.{state_kept}
 use Rattle.schedule_states.specs.Contents.{MayHold}
 use Rattle.schedule_states.specs.Covering.{Covers, IsClosed, ReachedView}
-use Rattle.schedule_states.specs.Exploring.{IfAll, IfNoWayOut, IsAll, IsFound, LeadByHarts}
+use Rattle.schedule_states.specs.Exploring.{IfAll, IfNoWayOut, IsAll, IsFinal, IsFound, LeadByHarts}
 use Rattle.schedule_states.specs.Happening.{full_image}
 use Rattle.schedule_states.specs.HeldLines.{AreBelow, on_medium}
 use Rattle.schedule_states.specs.Images.{content_of, highest_in, image_from, image_in, line_in, others_of}
@@ -326,3 +326,9 @@ nowhere_more (known.All states moments) one other so is = tt
 nowhere_more (known.Found stop requests) one other so is = tt
 nowhere_more (known.NoWayOut requests) one other so is = so requests.items is
 nowhere_more known.TooMany one other so is = tt
+
+pub final_leads : (explored : Explored) (harts : ℕ) (claim : List ℕ → Type 0) → IsFinal explored → LeadByHarts harts explored × IfNoWayOut explored claim
+final_leads (known.All states moments) harts claim final = (tt, tt)
+final_leads (known.Found stop requests) harts claim final = absurd final
+final_leads (known.NoWayOut requests) harts claim final = absurd final
+final_leads known.TooMany harts claim final = (tt, tt)

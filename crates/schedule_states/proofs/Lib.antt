@@ -33,5 +33,6 @@ pub mod Showing
 pub mod Standing
 pub mod Starting
 pub mod Turning
+pub mod Watching
 pub mod Writing
 pub mod Stepping

@@ -1,5 +1,5 @@
 -- Claims of lines of the address space, a line being an address divided by 64.
-use Rattle.std.specs.Prelude.{◌≡◌, ◌≢◌, ◌⊎◌, ℕ, ◌+◌, ◌*◌, ◌/◌, ◌≤◌, ◌==◌, List, [], ◌∷◌, Option, Some, None, if◌then◌else◌}
+use Rattle.std.specs.Prelude.{◌≡◌, ◌≢◌, ◌⊎◌, ℕ, ◌+◌, ◌*◌, ◌/◌, ◌≤◌, ◌==◌, not, Bool, List, [], ◌∷◌, Option, Some, None, if◌then◌else◌}
 use Rattle.hart.specs.declared.need.Request.{Request}
 use Rattle.hart.specs.declared.need.Request.TheVariants.{Load, Store, Lr, Sc, Amo, Cbo, Fence, FenceI, Begin, End}
 use Rattle.line_memory.specs.declared.TheConstants.{TEXT_BASE, TEXT_SIZE}
@@ -11,6 +11,10 @@ use Rattle.schedule_states.specs.declared.claims.ClaimedLine.{ClaimedLine}
 abbrev pub claim_in : List ClaimedLine → ℕ → Option Claim
 claim_in [] l = None
 claim_in (claimed ∷ claims) l = if claimed.line == l then Some claimed.claim else claim_in claims l
+
+-- the claim is of another line
+abbrev pub is_of_other : ℕ → ClaimedLine → Bool
+is_of_other l claimed = not (claimed.line == l)
 
 -- it is claimed that hart h alone touches line l, which lies behind the text
 abbrev pub IsOwn : (ℕ → Option Claim) → ℕ → ℕ → Type 0

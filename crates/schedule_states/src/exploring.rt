@@ -1,9 +1,10 @@
 //! The search through all states of a program.
 
-ghost use Rattle.std.specs.Prelude.{◌≡◌, ◌≤◌, [], true, length, IfOk, IfSome};
+ghost use Rattle.std.specs.Prelude.{◌≡◌, ◌≤◌, [], filter, true, length, IfOk, IfSome};
 ghost use Rattle.machine.specs.Run.{started};
+ghost use Rattle.schedule_states.specs.Claims.{is_of_other};
 ghost use Rattle.schedule_states.specs.Covering.{CoversAt};
-ghost use Rattle.schedule_states.specs.Ending.{AlwaysEnds, AnyMayGo, IsStuckBehind};
+ghost use Rattle.schedule_states.specs.Ending.{AlwaysEnds, IsStuckBehind};
 ghost use Rattle.schedule_states.specs.Exploring.{IfAll, IfNoWayOut, IsAsked, IsFinal, IsFound, LeadByHarts, MayReduce};
 ghost use Rattle.schedule_states.specs.Happening.{AllHappen, AreLed};
 ghost use Rattle.schedule_states.specs.Judging.{AlwaysGood, IgnoresFull, StaysGood};
@@ -82,17 +83,15 @@ pub fn explore<T: Threads + Sync, J: StateJudge, W: Watcher>(
         × IfNoWayOut explored (λ requests. IsStuckBehind requests (started start.entry.program.now start.entry.medium.now start.entry.harts))) }
     ensures told { HasHeard W.hears watcher.old watcher.new }
 {
-    if judge.may_claim() {
-        if let Some(explored) = explore_claiming(rt, alloc, judge, start, workspace, watcher)? {
-            return Ok(explored);
-        }
+    if let Some(explored) = explore_claiming(rt, alloc, judge, start, workspace, watcher)? {
+        return Ok(explored);
     }
-    let nothing = Claimed { start, claims: &[] };
-    explore_by(rt, alloc, judge, nothing, workspace, watcher)
+    let unclaimed = Claimed { start, claims: &[] };
+    explore_by(rt, alloc, judge, unclaimed, workspace, watcher)
 }
 
-/// The same by claims of lines, which are guessed, and checked. The search begins anew without a claim that is broken. None where it ends
-/// otherwise than by a pass or for too many states: what it finds is to be found without claims.
+/// The same by claims of lines, which are guessed, and checked. The search begins anew without a claim that is broken. None where the judge
+/// lets no line be claimed, and where a search ends otherwise than by a pass or for too many states: what it finds is to be found without claims.
 fn explore_claiming<T: Threads + Sync, J: StateJudge, W: Watcher>(
     rt: &T,
     alloc: Global,
@@ -103,7 +102,6 @@ fn explore_claiming<T: Threads + Sync, J: StateJudge, W: Watcher>(
 ) -> Result<Option<Explored>, AllocError>
     requires fits { J.fits judge.now (length start.medium.now) workspace.old }
     requires happens { AllHappen (J.allows judge.now) (J.happens judge.now) start.program.now start.medium.now start.harts }
-    requires free { AnyMayGo (J.allows judge.now) × ((w : J.Workspace) → IgnoresFull (J.good judge.now w)) }
     ensures good { IfOk result (λ found. IfSome found (λ explored. IfAll explored (AlwaysGood (J.stands judge.now) (J.allows judge.now) (J.good judge.now workspace.new) (J.ends judge.now)
         start.entry.program.now start.entry.medium.now start.entry.harts
         × (J.demands judge.now → AlwaysEnds start.entry.program.now start.entry.medium.now start.entry.harts)))) }
@@ -111,6 +109,9 @@ fn explore_claiming<T: Threads + Sync, J: StateJudge, W: Watcher>(
     ensures only { IfOk result (λ found. IfSome found IsFinal) }
     ensures told { HasHeard W.hears watcher.old watcher.new }
 {
+    if !judge.may_claim() {
+        return Ok(None);
+    }
     let mut claims = guess(alloc, start)?;
     for _guess in 0..MOST_GUESSES {
         if claims.is_empty() {
@@ -122,8 +123,8 @@ fn explore_claiming<T: Threads + Sync, J: StateJudge, W: Watcher>(
         };
         let found = explore_by(rt, alloc, judge, claimed, workspace, watcher)?;
         match broken_line(&found) {
-            Some(line) => without(&mut claims, line),
-            None => return Ok(if is_final(&found) { Some(found) } else { None }),
+            Some(line) => leave_out(&mut claims, line),
+            None => return Ok(final_of(found)),
         }
     }
     Ok(None)
@@ -140,7 +141,13 @@ fn broken_line(found: &Explored) -> Option<u64> {
     }
 }
 
-/// Whether a search by claims has come to a pass, or to too many states.
+/// What a search by claims has found, where that is a pass, or too many states.
+fn final_of(found: Explored) -> Option<Explored>
+    ensures { IfSome result (λ explored. (explored ≡ found) × IsFinal explored) }
+{
+    if is_final(&found) { Some(found) } else { None }
+}
+
 fn is_final(found: &Explored) -> bool
     ensures { result ≡ true → IsFinal found.now }
 {
@@ -151,7 +158,9 @@ fn is_final(found: &Explored) -> bool
 }
 
 /// Leaves out what is claimed of a line.
-fn without(claims: &mut Vec<ClaimedLine>, line: u64) {
+fn leave_out(claims: &mut Vec<ClaimedLine>, line: u64)
+    ensures { claims.new.items ≡ filter (is_of_other line) claims.old.items }
+{
     claims.retain(|claimed| claimed.line != line);
 }
 
