@@ -198,7 +198,7 @@ move_steps c d h (Some request) move =
 pub moves_once : (c d e : Config) (h : ℕ) (one other : Option Request) → Moves c h one d → Moves c h other e → d ≡ e
 moves_once c d e h one other a b = steps_once c (Hart h) d e (move_steps c d h one a) (move_steps c e h other b)
 
-asks_once : (text : Memory) (s : HartState) (r q : Request) → Asks text s r → Asks text s q → r ≡ q
+pub asks_once : (text : Memory) (s : HartState) (r q : Request) → Asks text s r → Asks text s q → r ≡ q
 asks_once text s r q a b = let same : Ask r ≡ Ask q = needs_once s (fetched text s.pc) (Ask r) (Ask q) a.needs b.needs in cc
 
 pub request_once : (c d e : Config) (h : ℕ) (one other : Option Request) → Moves c h one d → Moves c h other e → one ≡ other

@@ -93,8 +93,7 @@ pub fn is_local(claims: &[ClaimedLine], hart: u32, request: Request) -> bool
     match request {
         Request::Load { address, .. } => {
             let line = address / LINE_SIZE as u64;
-            claim_of(claims, line) == Some(Claim::Unwritten)
-                || owner_of(claims, line) == Some(hart)
+            claim_of(claims, line) == Some(Claim::Unwritten) || owner_of(claims, line) == Some(hart)
         }
         Request::Store { address, .. } => {
             owner_of(claims, address / LINE_SIZE as u64) == Some(hart)

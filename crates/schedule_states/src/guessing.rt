@@ -75,11 +75,7 @@ fn touch_by(
 }
 
 /// Notes the line that a request of a hart touches.
-fn note(
-    touched: &mut Vec<TouchedLine>,
-    hart: u32,
-    request: Request,
-) -> Result<(), AllocError> {
+fn note(touched: &mut Vec<TouchedLine>, hart: u32, request: Request) -> Result<(), AllocError> {
     let Some(line) = line_of(request) else {
         return Ok(());
     };

@@ -1,0 +1,29 @@
+use Rattle.std.proofs.Common.{◌≡◌, ◌<◌, ℕ, length, refl, sym, ◌∙◌, subst, arith, rules}
+use Rattle.schedule_states.proofs.Going.{settled_more, settled_still}
+use Rattle.schedule_states.proofs.Growing.{grown_then, moved_itself, moved_then}
+use Rattle.schedule_states.specs.Successors.{HasLists, HaveMoved, IfState, IsOwnRequest, IsSuccessor}
+use Rattle.schedule_states.specs.declared.successor.Successor.TheVariants as answer
+use Rattle.schedule_states.proofs.parts.Parts.settled.Goals as goal
+
+pub loop-_made-init : goal.loop-_made-init
+loop-_made-init c = record {
+  settled = settled_still c.args.self.now c.args.state c.args.hart;
+  lists = c.requires.lists;
+  moved = moved_itself c.args.hart c.args.state.harts.items;
+  grown = record { table = record { start = refl; grows = λ n s found. found }; lists = λ n held found. found; claims = refl };
+}
+
+pub loop-_made-preserved : goal.loop-_made-preserved
+loop-_made-preserved c =
+    let own : IsOwnRequest c.loop-_made.self c.loop-_made.at c.args.hart c.in-Some.asking = search rules in
+    let successor : IsSuccessor c.loop-_made.self c.serve.new.self c.loop-_made.at c.args.hart (answer.State c.in-State.next c.in-State._mark) =
+    subst (λ (h : ℕ). IsSuccessor c.loop-_made.self c.serve.new.self c.loop-_made.at h (answer.State c.in-State.next c.in-State._mark)) own.0
+    (rw c.in-State.is at c.in_ok-next.ensures.successor) in
+    let moved : HaveMoved c.args.hart c.loop-_made.at.harts.items c.in-State.next.harts.items =
+    subst (λ (h : ℕ). HaveMoved h c.loop-_made.at.harts.items c.in-State.next.harts.items) own.0 (rw c.in-State.is at c.in_ok-next.ensures.harts) in record {
+      settled = settled_more c.args.self.now c.loop-_made.self c.serve.new.self c.args.state c.loop-_made.at c.in-State.next c.args.hart c.in-Some.asking c.in-State._mark
+          c.loop-_made.invariant.grown.claims c.loop-_made.invariant.settled own successor;
+      lists = rw c.in-State.is at c.in_ok-next.ensures.lists;
+      moved = moved_then c.args.hart c.args.state.harts.items c.loop-_made.at.harts.items c.in-State.next.harts.items c.loop-_made.invariant.moved moved;
+      grown = grown_then c.args.self.now c.loop-_made.self c.serve.new.self c.loop-_made.invariant.grown c.serve.ensures.grown;
+    }
