@@ -6,29 +6,29 @@ use Rattle.schedule_states.specs.Watching.{nothing}
 use Rattle.schedule_states.specs.declared.exploring.Explored.{Explored}
 use Rattle.schedule_states.proofs.exploring.explore_claiming.Goals as goal
 
-pub loop-_guess-init : goal.loop-_guess-init
-loop-_guess-init g c = record { fits = c.requires.fits; kept = λ events full image good. good; told = nothing }
+pub loop-guess-init : goal.loop-guess-init
+loop-guess-init g c = record { fits = c.requires.fits; kept = λ events full image good. good; told = nothing }
 
 pub explore_by-requires-clause-reduced : goal.explore_by-requires-clause-reduced
 explore_by-requires-clause-reduced g c κs within =
     let allowed : c.may_claim.result ≡ true = search rules in
     inr (c.may_claim.ensures.free allowed, c.may_claim.ensures.ignored allowed)
 
-pub loop-_guess-preserved : goal.loop-_guess-preserved
-loop-_guess-preserved g c = record {
+pub loop-guess-preserved : goal.loop-guess-preserved
+loop-guess-preserved g c = record {
   fits = c.explore_by.ensures.kept.0;
-  kept = λ events full image good. c.explore_by.ensures.kept.1 events full image (c.loop-_guess.invariant.kept events full image good);
-  told = heard_then _ _ _ _ c.loop-_guess.invariant.told c.explore_by.ensures.told;
+  kept = λ events full image good. c.explore_by.ensures.kept.1 events full image (c.loop-guess.invariant.kept events full image good);
+  told = heard_then _ _ _ _ c.loop-guess.invariant.told c.explore_by.ensures.told;
 }
 
 pub returns-in_err-found-clause-kept : goal.returns-in_err-found-clause-kept
 returns-in_err-found-clause-kept g c = (
   c.explore_by.ensures.kept.0,
-  λ events full image good. c.explore_by.ensures.kept.1 events full image (c.loop-_guess.invariant.kept events full image good),
+  λ events full image good. c.explore_by.ensures.kept.1 events full image (c.loop-guess.invariant.kept events full image good),
 )
 
 pub returns-in_err-found-clause-told : goal.returns-in_err-found-clause-told
-returns-in_err-found-clause-told g c = heard_then _ _ _ _ c.loop-_guess.invariant.told c.explore_by.ensures.told
+returns-in_err-found-clause-told g c = heard_then _ _ _ _ c.loop-guess.invariant.told c.explore_by.ensures.told
 
 pub returns-in-None-clause-good : goal.returns-in-None-clause-good
 returns-in-None-clause-good g c = IfSome_then c.final_of.result c.final_of.ensures (λ explored is. subst (λ (e : Explored). IfAll e _) (sym is.0) c.in_ok-found.ensures.good)
@@ -39,8 +39,8 @@ returns-in-None-clause-only g c = IfSome_then c.final_of.result c.final_of.ensur
 pub returns-in-None-clause-kept : goal.returns-in-None-clause-kept
 returns-in-None-clause-kept g c = (
   c.explore_by.ensures.kept.0,
-  λ events full image good. c.explore_by.ensures.kept.1 events full image (c.loop-_guess.invariant.kept events full image good),
+  λ events full image good. c.explore_by.ensures.kept.1 events full image (c.loop-guess.invariant.kept events full image good),
 )
 
 pub returns-in-None-clause-told : goal.returns-in-None-clause-told
-returns-in-None-clause-told g c = heard_then _ _ _ _ c.loop-_guess.invariant.told c.explore_by.ensures.told
+returns-in-None-clause-told g c = heard_then _ _ _ _ c.loop-guess.invariant.told c.explore_by.ensures.told

@@ -3,12 +3,12 @@ use Rattle.schedule_states.proofs.Numbering.{lists_kept}
 use Rattle.schedule_states.specs.Successors.{HasLists, HaveMoved}
 use Rattle.schedule_states.proofs.guessing.touch_by.Goals as goal
 
-pub loop-_made-preserved : goal.loop-_made-preserved
-loop-_made-preserved c =
-    let moved : HaveMoved c.args.hart c.loop-_made.at.harts.items c.in-State.next.harts.items = rw c.in-State.is at c.in_ok-next.ensures.harts in record {
+pub loop-made-preserved : goal.loop-made-preserved
+loop-made-preserved c =
+    let moved : HaveMoved c.args.hart c.loop-made.at.harts.items c.in-State.next.harts.items = rw c.in-State.is at c.in_ok-next.ensures.harts in record {
       lists = rw c.in-State.is at c.in_ok-next.ensures.lists;
-      count = moved.count ∙ c.loop-_made.invariant.count;
+      count = moved.count ∙ c.loop-made.invariant.count;
     }
 
 pub returns-in_default-clause-lists : goal.returns-in_default-clause-lists
-returns-in_default-clause-lists c = lists_kept c.loop-_made.parts c.after_request.new.parts c.loop-_made.at c.after_request.ensures.grown c.loop-_made.invariant.lists
+returns-in_default-clause-lists c = lists_kept c.loop-made.parts c.after_request.new.parts c.loop-made.at c.after_request.ensures.grown c.loop-made.invariant.lists

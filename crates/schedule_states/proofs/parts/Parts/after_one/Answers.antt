@@ -20,8 +20,8 @@ returns-in-Stopped-clause-successor c =
     let stopped : c.index-part.result.now.state.status ≢ Running = rw c.in-Stopped.is at c.in-Some.ensures in
     λ k d. stopped_asks_not c.args.self.now c.args.state.now k d c.args.hart c.index-part.result.now part stopped
 
-pub returns-in-Asks-clause-asks : goal.returns-in-Asks-clause-asks
-returns-in-Asks-clause-asks c =
+pub returns-else-not-keeps-clause-asks : goal.returns-else-not-keeps-clause-asks
+returns-else-not-keeps-clause-asks c =
     let next : IsNext (text_of (memory_held c.args.self.now (slice_index_or c.args.self.now.lists c.index-part.result.now.text []))) c.index-part.result.now.state
     (nexts.Asks c.in-Asks.instr c.in-Asks.request) = rw c.in-Asks.is at c.in-Some.ensures in
     let asking : IsAskingOf c.args.self.now c.args.state.now (record { hart = c.args.hart; part = c.index-part.result.now; instr = c.in-Asks.instr; request = c.in-Asks.request }) =
