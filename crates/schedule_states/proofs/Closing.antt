@@ -50,6 +50,7 @@ covers_at_kept stands old new n d grown at = (
 
 pub taken_kept : {T : Type 0} (stands : T → List Event → Type 0) (old new : ReachedView T) (t : T) (h n : ℕ) (c d : Config) (request : Request) → HaveGrown old new →
     IsTaken stands old t h n c d request → IsTaken stands new t h n c d request
+unfolding covers_at_kept
 taken_kept stands old new t h n c d request grown taken = record {
   fits = subst (λ (claims : List ClaimedLine). IsFit (claim_in claims) h request) (sym grown.parts.claims) taken.fits;
   steps = taken.steps;
