@@ -1,20 +1,9 @@
-use Rattle.std.proofs.Common.{◌≡◌, ◌<◌, ℕ, length, sym, ◌∙◌, subst, arith, rules}
 use Rattle.schedule_states.proofs.Going.{turn_of}
 use Rattle.schedule_states.proofs.Growing.{grown_then, moved_then}
 use Rattle.schedule_states.specs.Happening.{IsAtFitRequest}
-use Rattle.schedule_states.specs.Successors.{HasLists, HaveMoved, IsSettled, IsSuccessor}
+use Rattle.schedule_states.specs.Successors.{HaveMoved, IsSettled, IsSuccessor}
 use Rattle.schedule_states.specs.declared.successor.Successor.TheVariants as answer
 use Rattle.schedule_states.proofs.parts.Parts.after_request.Goals as goal
-
-pub settled-requires-clause-there : goal.settled-requires-clause-there
-settled-requires-clause-there c =
-    let moved : HaveMoved c.args.hart c.args.state.now.harts.items c.in-State.next.harts.items = rw c.in-State.is at c.in_ok-next.ensures.harts in
-    omega (arith, moved.count, c.requires.there)
-
-pub settled-requires-clause-few : goal.settled-requires-clause-few
-settled-requires-clause-few c =
-    let moved : HaveMoved c.args.hart c.args.state.now.harts.items c.in-State.next.harts.items = rw c.in-State.is at c.in_ok-next.ensures.harts in
-    omega (arith, moved.count, c.requires.few)
 
 pub returns-in-Some-clause-turn : goal.returns-in-Some-clause-turn
 returns-in-Some-clause-turn c =
@@ -24,11 +13,6 @@ returns-in-Some-clause-turn c =
     let settled : IsSettled c.after_one.new.self c.settled.new.self c.in-State.next c.args.hart c.in-Some.settled = rw c.in-Some.is at c.in_ok-settled-in-State.ensures.settled in
     turn_of c.args.self.now c.after_one.new.self c.settled.new.self c.args.state.now c.in-State.next c.in-Some.settled c.args.hart c.in-State.mark c.after_one.ensures.grown.claims
     successor at settled
-
-pub returns-in-Some-clause-asks : goal.returns-in-Some-clause-asks
-returns-in-Some-clause-asks c =
-    let at : IsAtFitRequest c.args.self.now c.args.state.now c.args.hart = rw c.in-State.is at c.in_ok-next.ensures.asks in
-    at.0
 
 pub returns-in-Some-clause-harts : goal.returns-in-Some-clause-harts
 returns-in-Some-clause-harts c =
