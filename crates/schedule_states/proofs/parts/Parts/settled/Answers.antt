@@ -40,5 +40,10 @@ own_request-requires-clause-few c = omega (arith, c.loop-made.invariant.moved.co
 pub serve-requires-clause-few : goal.serve-requires-clause-few
 serve-requires-clause-few c = omega (arith, c.loop-made.invariant.moved.count, c.requires.few)
 
-pub returns-in_default-2-clause-grown : goal.returns-in_default-2-clause-grown
-returns-in_default-2-clause-grown c = grown_then c.args.self.now c.loop-made.self c.serve.new.self c.loop-made.invariant.grown c.serve.ensures.grown
+pub returns-in_default-2 : goal.returns-in_default-2
+returns-in_default-2 c = record {
+  settled = search rules;
+  lists = search rules;
+  harts = search rules;
+  grown = grown_then c.args.self.now c.loop-made.self c.serve.new.self c.loop-made.invariant.grown c.serve.ensures.grown;
+}
