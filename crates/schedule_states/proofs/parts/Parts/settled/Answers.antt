@@ -15,7 +15,7 @@ loop-made-init c = record {
 
 pub loop-made-preserved : goal.loop-made-preserved
 loop-made-preserved c =
-    let own : IsOwnRequest c.loop-made.self c.loop-made.at c.args.hart c.in-Some.asking = search rules in
+    let own : IsOwnRequest c.loop-made.self c.loop-made.at c.args.hart c.in-Some.asking = c.in-Some.ensures in
     let successor : IsSuccessor c.loop-made.self c.serve.new.self c.loop-made.at c.args.hart (answer.State c.in-State.next c.in-State.mark) =
     subst (λ (h : ℕ). IsSuccessor c.loop-made.self c.serve.new.self c.loop-made.at h (answer.State c.in-State.next c.in-State.mark)) own.0
     (rw c.in-State.is at c.in_ok-next.ensures.successor) in
