@@ -7,9 +7,10 @@ use crate::picture::title::{XmlName, XmlWords};
 use std::alloc::{AllocError, Global};
 use std::fmt;
 use std::fmt::Write;
+use text::{Blanks, first_word};
 
-/// How many bytes of a file's name, or of place words, are shown at most.
-const MOST_BYTES: usize = 24;
+/// How many bytes of a file's name, or of a place word, are shown at most.
+const MOST_BYTES: usize = 64;
 
 /// How wide a byte of a label is at most, in pixels.
 const WIDTH: u64 = 6;
@@ -75,27 +76,42 @@ impl fmt::Display for Label<'_> {
             Origin::Executable(place) => match place.line {
                 Some(at) => {
                     let name = XmlName {
-                        name: front_of(at.name),
+                        name: at_most(at.name, MOST_BYTES),
                     };
                     let line = at.line;
-                    write!(f, " {name}:{line}")
+                    write!(f, " at={name}:{line}")
                 }
                 None => Ok(()),
             },
-            Origin::Words(words) => {
-                let words = XmlWords {
-                    words: front_of(words),
-                };
-                write!(f, "{words}")
-            }
+            Origin::Words(words) => match source_word(words) {
+                Some(word) => {
+                    let words = XmlWords {
+                        words: at_most(word, MOST_BYTES),
+                    };
+                    write!(f, " {words}")
+                }
+                None => Ok(()),
+            },
         }
     }
 }
 
-/// As many bytes as are shown.
-fn front_of(bytes: &[u8]) -> &[u8] {
-    if bytes.len() > MOST_BYTES {
-        &bytes[..MOST_BYTES]
+/// The first place word that names a line of a source.
+fn source_word(words: &[u8]) -> Option<&[u8]> {
+    let mut rest = words;
+    while let Some((word, behind)) = first_word(rest, Blanks::Spaces) {
+        if word.starts_with(b"line=") || word.starts_with(b"at=") {
+            return Some(word);
+        }
+        rest = behind;
+    }
+    None
+}
+
+/// So many bytes, or all where there are fewer.
+fn at_most(bytes: &[u8], most: usize) -> &[u8] {
+    if bytes.len() > most {
+        &bytes[..most]
     } else {
         bytes
     }
