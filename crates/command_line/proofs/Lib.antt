@@ -5,6 +5,7 @@ mod Kept
 pub mod ImageLines
 mod Loops
 mod LostNames
+mod NotedChecks
 mod NumberedLines
 mod Texts
 mod Unexplained

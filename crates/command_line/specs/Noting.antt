@@ -91,6 +91,10 @@ abbrev pub volume_note : Bool → List ℕ
 volume_note false = []
 volume_note true = codes "note: the medium at the start is no volume: was --medium left out?" ++ line_end
 
+-- it stands behind other notes; memory for it may be refused
+pub record AddsVolumeNote (notes : Vec ℕ) (lacks : Bool) (outcome : Result (Vec ℕ) Failure) : Type 0 where
+  pub adds : MatchResult outcome (λ all. all.items ≡ notes.items ++ volume_note lacks) (λ failure. failure ≡ Memory)
+
 -- the notes of a check: those on the events, and behind them whether the start is no volume
 pub record AreNotesOfCheck (check : OpenCheck) (notes : Vec ℕ) : Type 0 where
   pub on_events : Vec ℕ

@@ -10,8 +10,8 @@ use crate::failure::Refusal;
 use crate::items::{BadItem, bad_item, word_hint};
 use crate::shown::{Form, Shown};
 use crate::source_lines::{front_of_line, numbered_line};
-use report::{Part, Slip, nearest_mnemonic, slip_in};
 use assemble::{AsmCode, AsmFault};
+use report::{Part, Slip, nearest_mnemonic, slip_in};
 use routine_judge::MarkFault;
 use std::alloc::{AllocError, Global};
 

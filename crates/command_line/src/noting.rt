@@ -3,7 +3,7 @@
 ghost use Rattle.command_line.specs.Checking.{IsOpen, JudgesCheck};
 ghost use Rattle.command_line.specs.Judging.{IsOpen as IsOpenJudge};
 ghost use Rattle.command_line.specs.JudgingRuns.{JudgesRun};
-ghost use Rattle.command_line.specs.Noting.{GetsNotes, JudgesNoted, NotesCheck, NotesEvents, NotesJudge, NotesRun, SaysLacking, are_wanted, are_wanted_of, is_whole, names_medium};
+ghost use Rattle.command_line.specs.Noting.{AddsVolumeNote, GetsNotes, JudgesNoted, NotesCheck, NotesEvents, NotesJudge, NotesRun, SaysLacking, are_wanted, are_wanted_of, is_whole, names_medium};
 ghost use Rattle.command_line.specs.Traces.{HasPlaces};
 ghost use Rattle.crash_test.specs.Programs.{IsProgramOf};
 ghost use Rattle.std.specs.Io.KnownBytes.{Appends};
@@ -85,8 +85,17 @@ fn notes_of_check(alloc: Global, check: &OpenCheck) -> Result<Vec<u8>, Failure>
 {
     let judged = &check.command.judged;
     let wanted = are_wanted_of(judged);
-    let mut notes = notes_of(alloc, &check.events, wanted)?;
-    if lacks_volume(alloc, wanted, &judged.source, check.events.medium())? {
+    let notes = notes_of(alloc, &check.events, wanted)?;
+    let lacks = lacks_volume(alloc, wanted, &judged.source, check.events.medium())?;
+    with_volume_note(notes, lacks)
+}
+
+/// Notes, and behind them that the medium is no volume, where it is none.
+fn with_volume_note(notes: Vec<u8>, lacks: bool) -> Result<Vec<u8>, Failure>
+    ensures { AddsVolumeNote notes lacks result }
+{
+    let mut notes = notes;
+    if lacks {
         notes.extend_from_slice(NO_VOLUME)?;
     }
     Ok(notes)

@@ -15,8 +15,8 @@ use crate::meanings::refused_file;
 use crate::reading::read_file;
 use crate::shown::{Form, Shown};
 use crate::source_lines::numbered_line;
-use report::slip_in;
 use assemble::AsmFault;
+use report::slip_in;
 use std::alloc::{AllocError, Global};
 
 /// `{"kind":"refused","code":"CODE","file":"FILE","line":N,"token":"TEXT"}`, with `null` where no file, line or token is at fault. The file

@@ -1,5 +1,6 @@
 -- Each step in its turn.
-use Rattle.std.proofs.Common.{Ok, Err, refl, rules}
+use Rattle.std.proofs.Common.{◌∙◌, Ok, Err, ap, refl}
+use Rattle.std.proofs.lemmas.Result.{err_from_is_err_and}
 use Rattle.command_line.proofs.noting.judge_noted_check.Goals as goal
 
 pub returns : goal.returns
@@ -16,9 +17,11 @@ returns g c = record {
 }
 
 pub returns-in_err-notes : goal.returns-in_err-notes
-returns-in_err-notes g c = record {
-  found = Err c.in_err-notes.field-0.0;
-  between = c.args.errors.now;
-  first = record { value = rw c.in_err-notes.was at c.notes_of_check.ensures; untouched = refl };
-  after = (search (rules, c.from_residual-in_err-notes.ensures), refl);
-}
+returns-in_err-notes g c =
+    let failed = err_from_is_err_and c.from_residual.result c.from_residual.ensures.1 in
+    record {
+      found = Err c.in_err-notes.field-0.0;
+      between = c.args.errors.now;
+      first = record { value = rw c.in_err-notes.was at c.notes_of_check.ensures; untouched = refl };
+      after = (failed.1 ∙ ap (λ failure. Err failure) failed.2, refl);
+    }
