@@ -1,6 +1,6 @@
 /* SPDX-License-Identifier: Apache-2.0
  *
- * A recovery in C, from one source: as a program for x86-64, which is called with a file, and by tools/c/novacrash-cc as
+ * A recovery in C, from one source: as a program for x86-64, which tools/x86/novacrash-ask runs on a file, and by tools/c/novacrash-cc as
  * a routine for `novacrash judge`. The source includes this header once, and defines
  *
  *     int recover(unsigned char *medium);

@@ -3,7 +3,8 @@ use Rattle.std.proofs.Common.{◌≡◌, ◌∙◌, refl, subst, sym, Bool, true
 use Rattle.std.specs.Prelude.{◌≢◌}
 use Rattle.clap.specs.Words.{Row, Text, first_of}
 use Rattle.arguments.specs.Cuts.{IsOptionalCuts}
-use Rattle.arguments.specs.Line.{AreCutsOf, AreRightBy, IsEventSource, IsJudge, IsRight, IsRightOf, IsTracedEvents}
+use Rattle.arguments.specs.Line.{AreCutsOf, AreRightBy, IsAsk, IsEventSource, IsJudge, IsRight, IsRightOf, IsTracedEvents}
+use Rattle.arguments.specs.declared.asked.AskCommand.{AskCommand}
 use Rattle.arguments.specs.declared.asked.EventSource.{EventSource}
 use Rattle.arguments.specs.declared.asked.EventSource.TheVariants.{Run, Trace}
 use Rattle.arguments.specs.declared.asked.JudgeCommand.{JudgeCommand}
@@ -17,6 +18,10 @@ use Rattle.std.specs.Prelude.{codes}
 -- a line asks for a run or for a file
 run_or_file : (rows : List Row) (run : ScheduledRun) (events : TracedEvents) → IsEventSource rows (Run run) → IsTracedEvents rows events → ⊥
 run_or_file rows run events of_run of_file = let e = sym of_run.0.found ∙ of_file.file.found in absurd cc
+
+-- answers are asked for on a file's events alone
+pub none_of_run : (rows : List Row) (run : ScheduledRun) → IsEventSource rows (Run run) → (command : AskCommand) → ¬ IsAsk rows command
+none_of_run rows run of_run command asked = run_or_file rows run command.events of_run asked.events
 
 same_right : (atomic overlapping : Bool) (one other : RightAnswers) → AreRightBy atomic overlapping one → AreRightBy atomic overlapping other → other ≡ one
 same_right false false one other is was = was ∙ sym is

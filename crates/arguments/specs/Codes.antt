@@ -19,7 +19,7 @@ all_codes =
     codes "A1" ∷ codes "A2" ∷ codes "A3" ∷ codes "A4" ∷ codes "A5" ∷ codes "A6" ∷ codes "A7" ∷ codes "A8" ∷ codes "A9" ∷ codes "A10" ∷
     codes "P1" ∷ codes "P2" ∷ codes "P3" ∷ codes "P4" ∷ codes "P5" ∷ codes "P6" ∷
     codes "E1" ∷ codes "E2" ∷ codes "E3" ∷ codes "E4" ∷ codes "E5" ∷ codes "E6" ∷ codes "E7" ∷ codes "E8" ∷ codes "E9" ∷
-    codes "V1" ∷ codes "V2" ∷ codes "V3" ∷ codes "V4" ∷ codes "V5" ∷ codes "G1" ∷ codes "G2" ∷ codes "G3" ∷ codes "G4" ∷
+    codes "V1" ∷ codes "V2" ∷ codes "V3" ∷ codes "V4" ∷ codes "V5" ∷ codes "V6" ∷ codes "V7" ∷ codes "G1" ∷ codes "G2" ∷ codes "G3" ∷ codes "G4" ∷
     codes "G5" ∷ codes "G6" ∷ codes "B3" ∷ codes "M3" ∷ codes "C1" ∷ codes "C2" ∷ codes "N1" ∷ codes "N2" ∷ codes "N3" ∷ codes "N4" ∷ codes "N5" ∷
     codes "N6" ∷ codes "N7" ∷ codes "N8" ∷ codes "N9" ∷ codes "N10" ∷ codes "N11" ∷ codes "L1" ∷ codes "L2" ∷ codes "L3" ∷ codes "L4" ∷
     codes "L5" ∷ codes "O1" ∷ codes "O2" ∷ codes "O3" ∷ codes "O4" ∷ codes "O5" ∷ codes "O6" ∷ codes "D1" ∷ codes "D2" ∷ codes "D3" ∷ codes "D4" ∷ codes "D5" ∷

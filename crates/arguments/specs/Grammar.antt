@@ -167,13 +167,13 @@ check_shape = record (new_shape (codes "check")) {
       ∷ flag_option (codes "json") ∷ flag_option (codes "progress") ∷ flag_option (codes "quiet") ∷ help_option ∷ [];
 }
 
--- `judge PROGRAM SCHEDULE RECOVERY [--medium FILE --harts N --steps N --workers N --atomic --states N --overlapping --recovery-cuts N --moments A-B --go-on --whole --why --json --progress --quiet]`
+-- `judge PROGRAM SCHEDULE RECOVERY [--medium FILE --harts N --steps N --workers N --atomic --states N --overlapping --recovery-cuts N --moments A-B --go-on --whole --why --answers --json --progress --quiet]`
 unfoldable pub judge_shape : Shape
 judge_shape = record (new_shape (codes "judge")) {
   rules = needed_word (codes "PROGRAM") ∷ needed_word (codes "SCHEDULE") ∷ needed_word (codes "RECOVERY")
       ∷ valued_option (codes "medium") ∷ valued_option (codes "harts") ∷ valued_option (codes "steps")
       ∷ valued_option (codes "workers") ∷ flag_option (codes "atomic") ∷ valued_option (codes "states")
-      ∷ flag_option (codes "overlapping") ∷ valued_option (codes "recovery-cuts") ∷ valued_option (codes "moments") ∷ flag_option (codes "go-on") ∷ flag_option (codes "whole") ∷ flag_option (codes "why") ∷ flag_option (codes "json")
+      ∷ flag_option (codes "overlapping") ∷ valued_option (codes "recovery-cuts") ∷ valued_option (codes "moments") ∷ flag_option (codes "go-on") ∷ flag_option (codes "whole") ∷ flag_option (codes "why") ∷ flag_option (codes "answers") ∷ flag_option (codes "json")
       ∷ flag_option (codes "progress") ∷ flag_option (codes "quiet") ∷ help_option ∷ [];
 }
 
@@ -185,13 +185,14 @@ check_of_file_shape = record (new_shape (codes "check")) {
       ∷ flag_option (codes "json") ∷ flag_option (codes "progress") ∷ flag_option (codes "quiet") ∷ help_option ∷ [];
 }
 
--- `judge --trace FILE RECOVERY [--medium FILE --steps N --workers N --overlapping --moments A-B --go-on --whole --why --json --progress --quiet]`
+-- `judge --trace FILE RECOVERY [--medium FILE --steps N --workers N --overlapping --moments A-B --go-on --whole --why --answers --json --progress --quiet]`, or
+-- `judge --trace FILE --ask [--medium FILE --moments A-B --whole --why --json]`
 unfoldable pub judge_of_file_shape : Shape
 judge_of_file_shape = record (new_shape (codes "judge")) {
-  rules = needed_option (codes "trace") ∷ needed_word (codes "RECOVERY") ∷ valued_option (codes "medium") ∷ valued_option (codes "steps")
-      ∷ valued_option (codes "workers") ∷ flag_option (codes "overlapping") ∷ valued_option (codes "moments") ∷ flag_option (codes "go-on")
-      ∷ flag_option (codes "whole") ∷ flag_option (codes "why") ∷ flag_option (codes "json") ∷ flag_option (codes "progress") ∷ flag_option (codes "quiet")
-      ∷ help_option ∷ [];
+  rules = needed_option (codes "trace") ∷ optional_word (codes "RECOVERY") ∷ flag_option (codes "ask") ∷ valued_option (codes "medium")
+      ∷ valued_option (codes "steps") ∷ valued_option (codes "workers") ∷ flag_option (codes "overlapping") ∷ valued_option (codes "moments")
+      ∷ flag_option (codes "go-on") ∷ flag_option (codes "whole") ∷ flag_option (codes "why") ∷ flag_option (codes "json")
+      ∷ flag_option (codes "progress") ∷ flag_option (codes "quiet") ∷ help_option ∷ [];
 }
 
 -- `check-all PLAN PROGRAM [--medium FILE --harts N --states N --any-end --why --json --progress]`

@@ -15,7 +15,7 @@ use Rattle.arguments.specs.declared.asked.CheckAllCommand.{CheckAllCommand}
 use Rattle.arguments.specs.declared.asked.CheckCommand.{CheckCommand}
 use Rattle.arguments.specs.declared.asked.CodeCommand.{CodeCommand}
 use Rattle.arguments.specs.declared.asked.Command.{Command}
-use Rattle.arguments.specs.declared.asked.Command.TheVariants.{Answer, Assemble, Check, CheckAll, Code, Debug, Explain, Image, Images, Interleave, Judge, JudgeAll, Listing, MakeVolume, Picture, Program, Replay, Run, Show, Trace, Unpersisted, Upgrade, Waste}
+use Rattle.arguments.specs.declared.asked.Command.TheVariants.{Answer, Ask, Assemble, Check, CheckAll, Code, Debug, Explain, Image, Images, Interleave, Judge, JudgeAll, Listing, MakeVolume, Picture, Program, Replay, Run, Show, Trace, Unpersisted, Upgrade, Waste}
 use Rattle.arguments.specs.declared.asked.DebugCommand.{DebugCommand}
 use Rattle.arguments.specs.declared.asked.EventSource.{EventSource}
 use Rattle.arguments.specs.declared.asked.EventSource.TheVariants as sources
@@ -23,6 +23,7 @@ use Rattle.arguments.specs.declared.asked.ExplainCommand.{ExplainCommand}
 use Rattle.arguments.specs.declared.asked.ImageCommand.{ImageCommand}
 use Rattle.arguments.specs.declared.asked.ImagesCommand.{ImagesCommand}
 use Rattle.arguments.specs.declared.asked.InterleaveCommand.{InterleaveCommand}
+use Rattle.arguments.specs.declared.asked.AskCommand.{AskCommand}
 use Rattle.arguments.specs.declared.asked.JudgeAllCommand.{JudgeAllCommand}
 use Rattle.arguments.specs.declared.asked.JudgeCommand.{JudgeCommand}
 use Rattle.arguments.specs.declared.asked.JudgedProgram.{JudgedProgram}
@@ -188,16 +189,37 @@ AreCutsOf (sources.Run run) cuts = ⊤
 AreCutsOf (sources.Trace events) cuts = cuts ≡ None
 
 -- `judge` of these events by this recovery routine, so many steps of it on an image, the answers of it that are right, at most so many states of the
--- search for sequential runs, and so many power cuts in recovery
+-- search for sequential runs, so many power cuts in recovery, and whether the answers on full images are told
 pub record IsJudge (rows : List Row) (command : JudgeCommand) : Type 0 where
   pub recovery : IsWord (codes "RECOVERY") rows command.recovery
   pub steps : IsRecoverySteps rows command.steps
   pub right : IsRight rows command.right
   pub states : IsStates rows command.states
   pub cuts : IsOptionalCuts (first_of (codes "recovery-cuts") rows) command.cuts
+  pub answers : command.answers ≡ is_set (first_of (codes "answers") rows)
   pub judged : IsJudgedRun rows command.judged
   pub of_run : IsRightOf command.judged.source command.right
   pub cuts_of_run : AreCutsOf command.judged.source command.cuts
+  pub by_routine : is_set (first_of (codes "ask") rows) ≡ false
+
+-- no recovery routine is named, and no option of one is given
+pub record AsksAlone (rows : List Row) : Type 0 where
+  pub recovery : first_of (codes "RECOVERY") rows ≡ None
+  pub steps : first_of (codes "steps") rows ≡ None
+  pub workers : first_of (codes "workers") rows ≡ None
+  pub overlapping : is_set (first_of (codes "overlapping") rows) ≡ false
+  pub goes_on : is_set (first_of (codes "go-on") rows) ≡ false
+  pub progress : is_set (first_of (codes "progress") rows) ≡ false
+  pub answers : is_set (first_of (codes "answers") rows) ≡ false
+
+-- `judge --ask` of these events of a trace file, these moments of them or all, whether a failing image is explained, as text or as JSON
+pub record IsAsk (rows : List Row) (command : AskCommand) : Type 0 where
+  pub asks : is_set (first_of (codes "ask") rows) ≡ true
+  pub alone : AsksAlone rows
+  pub events : IsEventSource rows (sources.Trace command.events)
+  pub moments : IsOptionalMoments (first_of (codes "moments") rows) command.moments
+  pub why : command.why ≡ is_set (first_of (codes "why") rows)
+  pub json : command.json ≡ is_set (first_of (codes "json") rows)
 
 -- What `check-all` and `judge-all` have in common: this program, at most so many states, whether harts may stop in any way, whether a failure is
 -- explained, as text or as JSON, and whether it is reported how far the search has come.
@@ -275,6 +297,7 @@ IsOf name rows (Image command) = (name ≡ codes "image") × IsImage rows comman
 IsOf name rows (Explain command) = (name ≡ codes "explain") × IsExplain rows command
 IsOf name rows (Check command) = (name ≡ codes "check") × IsCheck rows command
 IsOf name rows (Judge command) = (name ≡ codes "judge") × IsJudge rows command
+IsOf name rows (Ask command) = (name ≡ codes "judge") × IsAsk rows command
 IsOf name rows (CheckAll command) = (name ≡ codes "check-all") × IsCheckAll rows command
 IsOf name rows (JudgeAll command) = (name ≡ codes "judge-all") × IsJudgeAll rows command
 IsOf name rows (Answer command) = (name ≡ codes "answer") × IsAnswer rows command
@@ -366,6 +389,7 @@ IsWithinLimits (Explain command) = IsMachineWithin command.run.machine × (comma
 IsWithinLimits (Check command) = IsJudgedWithin command.judged
 IsWithinLimits (Judge command) = IsJudgedWithin command.judged × IsWithin 1 500000000 command.steps × IsWithin 1 4294967295 command.states
     × IsRightOf command.judged.source command.right × IfSome command.cuts AreFewCuts × AreCutsOf command.judged.source command.cuts
+IsWithinLimits (Ask command) = IfSome command.moments IsUpward
 IsWithinLimits (CheckAll command) = IsProgramWithin command.judged
 IsWithinLimits (JudgeAll command) = IsProgramWithin command.judged × IsWithin 1 500000000 command.steps
 IsWithinLimits (Answer command) = IsWithin 1 500000000 command.steps

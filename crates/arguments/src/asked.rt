@@ -35,9 +35,11 @@ pub enum Command {
     /// `check PLAN PROGRAM SCHEDULE [--medium FILE --harts N --workers N --moments A-B --go-on --whole --why --json --progress --quiet]`, or
     /// `check PLAN --trace FILE [--medium FILE --workers N --moments A-B --go-on --whole --why --json --progress --quiet]`.
     Check(CheckCommand),
-    /// `judge PROGRAM SCHEDULE RECOVERY [--medium FILE --harts N --steps N --workers N --atomic --states N --overlapping --recovery-cuts N --moments A-B --go-on --whole --why --json --progress --quiet]`,
-    /// or `judge --trace FILE RECOVERY [--medium FILE --steps N --workers N --overlapping --moments A-B --go-on --whole --why --json --progress --quiet]`.
+    /// `judge PROGRAM SCHEDULE RECOVERY [--medium FILE --harts N --steps N --workers N --atomic --states N --overlapping --recovery-cuts N --moments A-B --go-on --whole --why --answers --json --progress --quiet]`,
+    /// or `judge --trace FILE RECOVERY [--medium FILE --steps N --workers N --overlapping --moments A-B --go-on --whole --why --answers --json --progress --quiet]`.
     Judge(JudgeCommand),
+    /// `judge --trace FILE --ask [--medium FILE --moments A-B --whole --why --json]`.
+    Ask(AskCommand),
     /// `check-all PLAN PROGRAM [--medium FILE --harts N --states N --any-end --why --json --progress]`.
     CheckAll(CheckAllCommand),
     /// `judge-all PROGRAM RECOVERY [--medium FILE --harts N --steps N --states N --any-end --why --json --progress]`.
@@ -265,7 +267,21 @@ pub struct JudgeCommand {
     pub states: u32,
     /// How many power cuts in recovery are looked at, where the line has `--recovery-cuts`.
     pub cuts: Option<MostCuts>,
+    /// Whether the answers on the full images of all moments are told behind a pass.
+    pub answers: bool,
     pub judged: JudgedRun,
+}
+
+/// What `judge --ask` is to do: the answers of recovery are asked for on standard output, and read from standard input.
+#[derive(Drop)]
+pub struct AskCommand {
+    pub events: TracedEvents,
+    /// The moments that are judged; None: all are.
+    pub moments: Option<Moments>,
+    /// Whether it is told what a failing image lacks and keeps.
+    pub why: bool,
+    /// Whether each line of what is found is a JSON object.
+    pub json: bool,
 }
 
 /// How many power cuts `judge` looks at that come while recovery runs or after it has ended.

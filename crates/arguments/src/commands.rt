@@ -1,14 +1,15 @@
 //! What each subcommand asks for, by the values found for its words and options.
 
-ghost use Rattle.std.specs.Prelude.{◌<◌, ◌^◌, ℕ, IfOk, IfErr, IfSome, String, codes};
+ghost use Rattle.std.specs.Prelude.{◌≡◌, ◌≢◌, ◌<◌, ◌^◌, ℕ, IfOk, IfErr, IfSome, IsTrue, None, String, codes, false, true};
 ghost use Rattle.std.specs.declared.alloc.Global.{Global as AGlobal};
-ghost use Rattle.clap.specs.Words.{found_of, rows_of};
-ghost use Rattle.arguments.specs.Line.{IsAnswer, IsAssemble, IsCheck, IsCheckAll, IsCode, IsDebug, IsEventSource, IsExplain, IsImage, IsImages, IsInterleave, IsJudge, IsJudgeAll, IsListing, IsMakeVolume, IsPicture, IsProgram, IsReplay, IsReport, IsRun, IsScheduledRun, IsShow, IsTrace, IsTracedEvents, IsUpgrade};
-ghost use Rattle.arguments.specs.Line.{AreCutsOf, IsCachedMachine, IsSourceWithin, IsJudgedProgram, IsJudgedRun, IsJudgedWithin, IsMachineWithin, IsOf, IsProgramWithin, IsRight, IsRightOf, IsWithin, IsWithinLimits, OnFault};
+ghost use Rattle.clap.specs.Words.{first_of, found_of, rows_of};
+ghost use Rattle.arguments.specs.Line.{AsksAlone, IsAnswer, IsAsk, IsAssemble, IsCheck, IsCheckAll, IsCode, IsDebug, IsEventSource, IsExplain, IsImage, IsImages, IsInterleave, IsJudge, IsJudgeAll, IsListing, IsMakeVolume, IsPicture, IsProgram, IsReplay, IsReport, IsRun, IsScheduledRun, IsShow, IsTrace, IsTracedEvents, IsUpgrade};
+ghost use Rattle.arguments.specs.Line.{AreCutsOf, IsCachedMachine, IsSourceWithin, IsJudgedProgram, IsJudgedRun, IsJudgedWithin, IsFault, IsMachineWithin, IsOf, IsProgramWithin, IsRight, IsRightOf, IsWithin, IsWithinLimits, OnFault};
 ghost use Rattle.arguments.specs.Started.{IsStarted};
-ghost use Rattle.arguments.specs.Values.{IsWord};
+ghost use Rattle.arguments.specs.Values.{IsWord, is_set};
 ghost use Rattle.text.specs.Texts.{IsProper};
 ghost use Rattle.arguments.specs.declared.asked.AnswerCommand.{AnswerCommand as AnAnswerCommand};
+ghost use Rattle.arguments.specs.declared.asked.AskCommand.{AskCommand as AnAskCommand};
 ghost use Rattle.arguments.specs.declared.asked.AssembleCommand.{AssembleCommand as AAssembleCommand};
 ghost use Rattle.arguments.specs.declared.asked.MakeVolumeCommand.{MakeVolumeCommand as AMakeVolumeCommand};
 ghost use Rattle.arguments.specs.declared.asked.UpgradeCommand.{UpgradeCommand as AnUpgradeCommand};
@@ -38,22 +39,22 @@ ghost use Rattle.arguments.specs.declared.asked.RightAnswers.{RightAnswers as So
 ghost use Rattle.arguments.specs.declared.asked.ScheduledRun.{ScheduledRun as AScheduledRun};
 
 use crate::asked::{
-    AnswerCommand, AssembleCommand, CheckAllCommand, CheckCommand, CodeCommand, Command,
-    DebugCommand, EventSource, ExplainCommand, ImageCommand, ImagesCommand, InterleaveCommand,
-    JudgeAllCommand, JudgeCommand, JudgedProgram, JudgedRun, LineFault, ListingCommand,
-    MachineOptions, MakeVolumeCommand, MostCuts, PictureCommand, ProgramCommand, ReplayCommand,
-    ReportCommand, RightAnswers, RunCommand, ScheduledRun, ShowCommand, TraceCommand, TracedEvents,
-    UpgradeCommand,
+    AnswerCommand, AskCommand, AssembleCommand, CheckAllCommand, CheckCommand, CodeCommand,
+    Command, DebugCommand, EventSource, ExplainCommand, ImageCommand, ImagesCommand,
+    InterleaveCommand, JudgeAllCommand, JudgeCommand, JudgedProgram, JudgedRun, LineFault,
+    ListingCommand, MachineOptions, MakeVolumeCommand, MostCuts, PictureCommand, ProgramCommand,
+    ReplayCommand, ReportCommand, RightAnswers, RunCommand, ScheduledRun, ShowCommand,
+    TraceCommand, TracedEvents, UpgradeCommand,
 };
 use crate::cuts::optional_cuts;
 use crate::machine::{cached_machine, whole_machine};
 use crate::moments::optional_moments;
 use crate::values::{
     NumberOption, code_word, flag, image_word, number, number_word, optional, optional_image,
-    optional_number_word, seed, word,
+    optional_number_word, seed, value, word,
 };
 use clap::ArgMatches;
-use std::alloc::Global;
+use std::alloc::{AllocError, Global};
 
 /// The most steps of each hart that `run` makes.
 const STEPS: NumberOption = NumberOption {
@@ -424,8 +425,25 @@ fn demand_run(alloc: Global, source: &EventSource, cuts: Option<MostCuts>) -> Re
     }
 }
 
-/// What `judge` is to do.
+/// What `judge` is to do: by a recovery routine, or by answers that are asked for.
 pub(crate) fn judge(alloc: Global, found: &ArgMatches<'_>) -> Result<Command, LineFault>
+    ensures ok { IfOk result (IsOf (codes "judge") (rows_of (found_of found.now))) }
+    ensures within { IfOk result IsWithinLimits }
+    ensures err { IfErr result (OnFault ((command : AJudgeCommand)
+        → ¬ (IsJudge (rows_of (found_of found.now)) command))) }
+    ensures err_asked { IfErr result (OnFault ((command : AnAskCommand)
+        → ¬ (IsAsk (rows_of (found_of found.now)) command))) }
+{
+    if flag(found, "ask") {
+        ask(alloc, found)
+    } else {
+        judge_by_routine(alloc, found)
+    }
+}
+
+/// What it is to do by a recovery routine.
+fn judge_by_routine(alloc: Global, found: &ArgMatches<'_>) -> Result<Command, LineFault>
+    requires { is_set (first_of (codes "ask") (rows_of (found_of found.now))) ≡ false }
     ensures ok { IfOk result (IsOf (codes "judge") (rows_of (found_of found.now))) }
     ensures within { IfOk result IsWithinLimits }
     ensures err { IfErr result (OnFault ((command : AJudgeCommand)
@@ -445,8 +463,66 @@ pub(crate) fn judge(alloc: Global, found: &ArgMatches<'_>) -> Result<Command, Li
         right,
         states,
         cuts,
+        answers: flag(found, "answers"),
         judged,
     }))
+}
+
+/// What it is to do by answers that are asked for.
+#[tactic(auto, using(crate::proofs::Traced::none_of_run))]
+fn ask(alloc: Global, found: &ArgMatches<'_>) -> Result<Command, LineFault>
+    requires { is_set (first_of (codes "ask") (rows_of (found_of found.now))) ≡ true }
+    ensures ok { IfOk result (IsOf (codes "judge") (rows_of (found_of found.now))) }
+    ensures within { IfOk result IsWithinLimits }
+    ensures err { IfErr result (OnFault ((command : AnAskCommand)
+        → ¬ (IsAsk (rows_of (found_of found.now)) command))) }
+{
+    demand_alone(alloc, found)?;
+    let moments = optional_moments(alloc, found, "moments")?;
+    match event_source(alloc, found)? {
+        EventSource::Trace(events) => Ok(Command::Ask(AskCommand {
+            events,
+            moments,
+            why: flag(found, "why"),
+            json: flag(found, "json"),
+        })),
+        EventSource::Run(_) => {
+            Err(LineFault::Fault(format!(in alloc; "error: --ask takes --trace FILE\n")?))
+        }
+    }
+}
+
+/// Refuses a recovery routine, and the options of one.
+fn demand_alone(alloc: Global, found: &ArgMatches<'_>) -> Result<(), LineFault>
+    ensures ok { IfOk result (λ _. AsksAlone (rows_of (found_of found.now))) }
+    ensures err { IfErr result (OnFault (¬ (AsksAlone (rows_of (found_of found.now))))) }
+{
+    if is_given(found, "RECOVERY") || is_given(found, "steps") || is_given(found, "workers") {
+        return Err(not_alone(alloc)?);
+    }
+    if flag(found, "overlapping") || flag(found, "go-on") {
+        return Err(not_alone(alloc)?);
+    }
+    if flag(found, "progress") || flag(found, "answers") {
+        return Err(not_alone(alloc)?);
+    }
+    Ok(())
+}
+
+/// Whether the line has a word, or an option with a value.
+fn is_given(found: &ArgMatches<'_>, name: &str) -> bool
+    ensures some { IsTrue result → first_of name.now (rows_of (found_of found.now)) ≢ None }
+    ensures none { ¬ (IsTrue result) → first_of name.now (rows_of (found_of found.now)) ≡ None }
+{
+    value(found, name).is_some()
+}
+
+fn not_alone(alloc: Global) -> Result<LineFault, AllocError>
+    ensures { IfOk result IsFault }
+{
+    Ok(LineFault::Fault(format!(in alloc;
+        "error: --ask stands in place of RECOVERY, without --steps, --workers, --overlapping, --go-on and --progress\n"
+    )?))
 }
 
 /// What `check-all` is to do.

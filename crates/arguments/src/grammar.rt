@@ -103,6 +103,16 @@ const RECOVERY: Argument = Argument::Word {
     about: "The recovery routine's file: an ELF file, an object or a source",
 };
 
+const RECOVERY_OF_TRACE: Argument = Argument::Optional {
+    name: "RECOVERY",
+    about: "The source, object or ELF executable of the recovery routine, where the line hasn't --ask",
+};
+
+const ASK: Argument = Argument::Flag {
+    name: "ask",
+    about: "Ask for the answers of a recovery that runs outside: requests on standard output, replies on standard input",
+};
+
 const LINES: Argument = Argument::Word {
     name: "LINES",
     about: "The number of cache lines of the medium",
@@ -322,6 +332,11 @@ const PROGRESS: Argument = Argument::Flag {
     about: "Tell on standard error how far the check has come, at most twice a second",
 };
 
+const ANSWERS: Argument = Argument::Flag {
+    name: "answers",
+    about: "Behind a pass, print how many different answers RECOVERY gives where nothing is lost, and the last one",
+};
+
 const QUIET: Argument = Argument::Flag {
     name: "quiet",
     about: "With --whole, leave out the notes on standard error",
@@ -522,6 +537,7 @@ static JUDGING_OF_RUNS: [Subcommand; 2] = [
             GO_ON,
             WHOLE,
             WHY,
+            ANSWERS,
             JSON,
             PROGRESS,
             QUIET,
@@ -562,7 +578,8 @@ static JUDGING_OF_FILES: [Subcommand; 2] = [
         about: "Judge every crash image of a trace file by a recovery routine of one's own",
         arguments: &[
             TRACE,
-            RECOVERY,
+            RECOVERY_OF_TRACE,
+            ASK,
             MEDIUM_OF_TRACE,
             RECOVERY_STEPS,
             WORKERS,
@@ -571,11 +588,15 @@ static JUDGING_OF_FILES: [Subcommand; 2] = [
             GO_ON,
             WHOLE,
             WHY,
+            ANSWERS,
             JSON,
             PROGRESS,
             QUIET,
         ],
-        ending: ending!("judge --trace ring.trace ring-recovery.s --whole --why"),
+        ending: ending!(
+            "judge --trace ring.trace ring-recovery.s --whole --why",
+            "With --ask in place of RECOVERY it asks for the answers of any recovery: docs/FORMATS.md.\n\n"
+        ),
     },
 ];
 

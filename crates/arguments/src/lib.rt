@@ -12,12 +12,12 @@ mod moments;
 mod values;
 
 pub use asked::{
-    AnswerCommand, AssembleCommand, CheckAllCommand, CheckCommand, CodeCommand, Command,
-    DebugCommand, EventSource, ExplainCommand, ImageCommand, ImagesCommand, InterleaveCommand,
-    JudgeAllCommand, JudgeCommand, JudgedProgram, JudgedRun, LineFault, ListingCommand,
-    MachineOptions, MakeVolumeCommand, Moments, MostCuts, PictureCommand, ProgramCommand,
-    ReplayCommand, ReportCommand, RightAnswers, RunCommand, ScheduledRun, ShowCommand,
-    TraceCommand, TracedEvents, UpgradeCommand,
+    AnswerCommand, AskCommand, AssembleCommand, CheckAllCommand, CheckCommand, CodeCommand,
+    Command, DebugCommand, EventSource, ExplainCommand, ImageCommand, ImagesCommand,
+    InterleaveCommand, JudgeAllCommand, JudgeCommand, JudgedProgram, JudgedRun, LineFault,
+    ListingCommand, MachineOptions, MakeVolumeCommand, Moments, MostCuts, PictureCommand,
+    ProgramCommand, ReplayCommand, ReportCommand, RightAnswers, RunCommand, ScheduledRun,
+    ShowCommand, TraceCommand, TracedEvents, UpgradeCommand,
 };
 pub use codes::{Meaning, all_have_meanings, list, meaning_of};
 pub use line::command;

@@ -220,8 +220,9 @@ fn asked_to_show(alloc: Global, name: &str, found: &ArgMatches<'_>) -> Result<Co
 /// - `explain PROGRAM SCHEDULE MOMENT IMAGE [--medium FILE --harts N --least --whole]`
 /// - `check PLAN PROGRAM SCHEDULE [--medium FILE --harts N --workers N --moments A-B --go-on --whole --why --json --progress --quiet]`
 /// - `check PLAN --trace FILE [--medium FILE --workers N --moments A-B --go-on --whole --why --json --progress --quiet]`
-/// - `judge PROGRAM SCHEDULE RECOVERY [--medium FILE --harts N --steps N --workers N --atomic --states N --overlapping --recovery-cuts N --moments A-B --go-on --whole --why --json --progress --quiet]`
-/// - `judge --trace FILE RECOVERY [--medium FILE --steps N --workers N --overlapping --moments A-B --go-on --whole --why --json --progress --quiet]`
+/// - `judge PROGRAM SCHEDULE RECOVERY [--medium FILE --harts N --steps N --workers N --atomic --states N --overlapping --recovery-cuts N --moments A-B --go-on --whole --why --answers --json --progress --quiet]`
+/// - `judge --trace FILE RECOVERY [--medium FILE --steps N --workers N --overlapping --moments A-B --go-on --whole --why --answers --json --progress --quiet]`
+/// - `judge --trace FILE --ask [--medium FILE --moments A-B --whole --why --json]`
 /// - `check-all PLAN PROGRAM [--medium FILE --harts N --states N --any-end --why --json --progress]`
 /// - `judge-all PROGRAM RECOVERY [--medium FILE --harts N --steps N --states N --any-end --why --json --progress]`
 /// - `answer RECOVERY [--medium FILE --steps N]`

@@ -7,6 +7,9 @@ mod Loops
 mod LostNames
 mod NotedChecks
 mod NumberedLines
+mod Replies
+mod Requests
+mod Asked
 mod Texts
 mod Unexplained
 mod Chains

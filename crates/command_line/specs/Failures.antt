@@ -48,7 +48,7 @@ use Rattle.command_line.specs.Reports.{line_end}
 use Rattle.command_line.specs.declared.failure.Failure.{Failure}
 use Rattle.command_line.specs.declared.failure.Failure.TheVariants.{Line, Refused, Unfinished, Memory, File}
 use Rattle.command_line.specs.declared.failure.Refusal.{Refusal}
-use Rattle.command_line.specs.declared.failure.Refusal.TheVariants.{Assembly, Object, Plan, ScheduleText, Trace, Medium, Volume, Step, Foreign, Moment, Image, Operation, Marks, RecoverySource, RecoveryObject, Elf, RecoveryElf}
+use Rattle.command_line.specs.declared.failure.Refusal.TheVariants.{Assembly, Object, Plan, ScheduleText, Trace, Medium, Volume, Step, Foreign, Moment, Image, Operation, Marks, Reply, NoReply, RecoverySource, RecoveryObject, Elf, RecoveryElf}
 use Rattle.command_line.specs.declared.files.FileFault.{FileFault}
 use Rattle.command_line.specs.declared.files.FileFault.TheVariants as files
 
@@ -68,6 +68,8 @@ refusal_code Moment = image_code images.NoSuchMoment
 refusal_code Image = image_code images.NotACut
 refusal_code (Operation fault) = operation_code fault
 refusal_code (Marks fault) = mark_code fault
+refusal_code Reply = codes "V6"
+refusal_code NoReply = codes "V7"
 refusal_code (RecoverySource fault) = assembly_code fault.code
 refusal_code (RecoveryObject fault) = load_code fault
 refusal_code (RecoveryElf fault) = elf_code fault

@@ -2,7 +2,7 @@
 use Rattle.std.specs.Prelude.{List, ℕ, Bool, false, Option, Some, None, String, option_map, string_bytes}
 use Rattle.std.specs.declared.alloc.Global.{Global}
 use Rattle.arguments.specs.declared.asked.Command.{Command}
-use Rattle.arguments.specs.declared.asked.Command.TheVariants.{Answer, Assemble, Check, CheckAll, Code, Debug, Explain, Image, Images, Interleave, Judge, JudgeAll, Listing, MakeVolume, Picture, Program, Replay, Run, Show, Trace, Unpersisted, Upgrade, Waste}
+use Rattle.arguments.specs.declared.asked.Command.TheVariants.{Answer, Ask, Assemble, Check, CheckAll, Code, Debug, Explain, Image, Images, Interleave, Judge, JudgeAll, Listing, MakeVolume, Picture, Program, Replay, Run, Show, Trace, Unpersisted, Upgrade, Waste}
 use Rattle.arguments.specs.declared.asked.EventSource.{EventSource}
 use Rattle.arguments.specs.declared.asked.EventSource.TheVariants as sources
 use Rattle.arguments.specs.declared.asked.MachineOptions.{MachineOptions}
@@ -62,6 +62,7 @@ names_of (Image command) = names_of_source command.source
 names_of (Explain command) = names_of_run command.run
 names_of (Check command) = record (names_of_source command.judged.source) { plan = Some (string_bytes command.plan) }
 names_of (Judge command) = record (names_of_source command.judged.source) { recovery = Some (string_bytes command.recovery) }
+names_of (Ask command) = names_of_source (sources.Trace command.events)
 names_of (CheckAll command) = record (names_of_machine command.judged.program command.judged.machine) { plan = Some (string_bytes command.plan) }
 names_of (JudgeAll command) = record (names_of_machine command.judged.program command.judged.machine) { recovery = Some (string_bytes command.recovery) }
 names_of (Answer command) = record no_names { recovery = Some (string_bytes command.recovery); medium = option_map string_bytes command.medium }
@@ -80,6 +81,7 @@ is_json (Waste command) = command.json
 is_json (Images command) = command.json
 is_json (Check command) = command.judged.json
 is_json (Judge command) = command.judged.json
+is_json (Ask command) = command.json
 is_json (CheckAll command) = command.judged.json
 is_json (JudgeAll command) = command.judged.json
 is_json command = false

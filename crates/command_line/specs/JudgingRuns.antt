@@ -5,6 +5,7 @@ use Rattle.every_schedule.specs.declared.sequential.Sequential.{Sequential}
 use Rattle.every_schedule.specs.declared.sequential.Sequential.TheVariants as known
 use Rattle.command_line.specs.AllSchedules.{told_bound}
 use Rattle.command_line.specs.CutVerdicts.{cuts_asked}
+use Rattle.command_line.specs.ToldFull.{TellsFull}
 use Rattle.command_line.specs.Judging.{FindsRuns}
 use Rattle.command_line.specs.JudgingCuts.{JudgesCuts}
 use Rattle.command_line.specs.JudgingOnce.{JudgesOnce}
@@ -12,13 +13,14 @@ use Rattle.command_line.specs.Steps.{First, Prints, Step, Still}
 use Rattle.command_line.specs.declared.answer.Answer.{Answer}
 use Rattle.command_line.specs.declared.opened.OpenJudge.{OpenJudge}
 
--- what the run comes to by the right answers, with so many power cuts in recovery
+-- the verdict on the run by the right answers, with so many power cuts in recovery
 abbrev pub JudgesWith : {E : Type 0} → (E → Option (List ℕ)) → OpenJudge → Option MostCuts → Step E Answer
 JudgesWith said judge None = JudgesOnce said judge
 JudgesWith said judge (Some most) = JudgesCuts said judge (cuts_asked most)
 
+-- and behind a pass the answers on all full images, where these are asked for
 abbrev pub JudgesRight : {E : Type 0} → (E → Option (List ℕ)) → OpenJudge → Step E Answer
-JudgesRight said judge = JudgesWith said judge judge.command.cuts
+JudgesRight said judge = First (JudgesWith said judge judge.command.cuts) (λ answer. Still (TellsFull judge answer))
 
 -- without all of them there is no verdict, but the bound
 abbrev pub JudgesBy : {E : Type 0} → (E → Option (List ℕ)) → OpenJudge → Option Sequential → Step E Answer

@@ -1,6 +1,7 @@
 pub mod AllSchedules
 pub mod Answered
 pub mod Answering
+pub mod Asking
 pub mod Assembling
 pub mod Checking
 pub mod CheckingAll
@@ -20,6 +21,7 @@ pub mod CutReasons
 pub mod CutVerdicts
 pub mod JudgingCuts
 pub mod ToldAnswers
+pub mod ToldFull
 pub mod JudgingOnce
 pub mod JudgingRuns
 pub mod Judging
@@ -38,7 +40,9 @@ pub mod Picturing
 pub mod Progress
 pub mod Reading
 pub mod MakingRuns
+pub mod Replies
 pub mod Reports
+pub mod Requests
 pub mod Running
 pub mod Showing
 pub mod Shown

@@ -4,11 +4,12 @@ use Rattle.std.specs.Io.KnownBytes.{Appends}
 use Rattle.std.specs.Result.{result_map_both}
 use Rattle.arguments.specs.Line.{IsCommand, Refuses}
 use Rattle.arguments.specs.declared.asked.Command.{Command}
-use Rattle.arguments.specs.declared.asked.Command.TheVariants.{Answer as AnswerCommand, Assemble, Check, CheckAll, Code, Debug, Explain, Image, Images, Interleave, Judge, JudgeAll, Listing, MakeVolume, Picture, Program, Replay, Run, Show, Trace, Unpersisted, Upgrade, Waste}
+use Rattle.arguments.specs.declared.asked.Command.TheVariants.{Answer as AnswerCommand, Ask, Assemble, Check, CheckAll, Code, Debug, Explain, Image, Images, Interleave, Judge, JudgeAll, Listing, MakeVolume, Picture, Program, Replay, Run, Show, Trace, Unpersisted, Upgrade, Waste}
 use Rattle.arguments.specs.declared.asked.LineFault.{LineFault}
 use Rattle.arguments.specs.declared.asked.LineFault.TheVariants as line_faults
 use Rattle.debugger.specs.StreamFailures.{AppendsFront}
 use Rattle.command_line.specs.Answering.{AnswersFile}
+use Rattle.command_line.specs.Asking.{IsOpenAsk, JudgesAsked, OpensAsk}
 use Rattle.command_line.specs.Assembling.{AssemblesFile}
 use Rattle.command_line.specs.Checking.{IsOpen, JudgesCheck, OpensCheck}
 use Rattle.command_line.specs.AllSchedules.{FailsBehind}
@@ -42,6 +43,7 @@ use Rattle.command_line.specs.declared.answer.Answer.{Answer}
 use Rattle.command_line.specs.declared.answer.Conclusion.{Conclusion}
 use Rattle.command_line.specs.declared.answer.Conclusion.TheVariants.{Answered, Refused}
 use Rattle.command_line.specs.declared.failure.Failure.{Failure}
+use Rattle.command_line.specs.declared.opened.OpenAsk.{OpenAsk}
 use Rattle.command_line.specs.declared.opened.OpenCheck.{OpenCheck}
 use Rattle.command_line.specs.declared.opened.OpenJudge.{OpenJudge}
 use Rattle.command_line.specs.declared.failure.Failure.TheVariants.{Line, Memory, File}
@@ -68,6 +70,7 @@ CarriesOut reads writes (Image command) = LeadsTo (ImageFile reads writes comman
 CarriesOut reads writes (Explain command) = LeadsTo (ExplainsFile reads command) actions.Print
 CarriesOut reads writes (Check command) = LeadsTo (OpensCheck reads command) actions.Check
 CarriesOut reads writes (Judge command) = LeadsTo (OpensJudge reads command) actions.Judge
+CarriesOut reads writes (Ask command) = LeadsTo (OpensAsk reads command) actions.Ask
 CarriesOut reads writes (CheckAll command) = LeadsTo (OpensCheckAll reads command) actions.CheckAll
 CarriesOut reads writes (JudgeAll command) = LeadsTo (OpensJudgeAll reads command) actions.JudgeAll
 CarriesOut reads writes (AnswerCommand command) = LeadsTo (AnswersFile reads command) actions.Print
@@ -84,6 +87,7 @@ IsReady (actions.Print answer) = Unit {0}
 IsReady (actions.PrintNoted noted) = Unit {0}
 IsReady (actions.Check check) = IsOpen check
 IsReady (actions.Judge judge) = IsOpenJudge judge
+IsReady (actions.Ask ask) = IsOpenAsk ask
 IsReady (actions.CheckAll check) = IsOpenCheckAll check
 IsReady (actions.JudgeAll judge) = IsOpenJudgeAll judge
 IsReady (actions.Debug debug) = IsOpenDebug debug
@@ -143,6 +147,15 @@ pub record DeliversJudge {W E : Type 0} (contents : W → Option (List ℕ)) (sa
   pub judges : JudgesNoted said (NotesJudge judge) (JudgesRun said judge) errors found errors'
   pub printed : IsPrintedIf contents old new found ended
 
+-- the same of events that are judged by answers, which are asked for on standard output, and read from standard input. `remaining` is what is
+-- known of the bytes that a reader will still give
+pub record DeliversAsk {R W E : Type 0} (remaining : R → Option (List ℕ)) (contents : W → Option (List ℕ)) (said : E → Option (List ℕ)) (ask : OpenAsk)
+    (old new : R × W) (errors errors' : E) (ended : Result ℕ Failure) : Type 0 where
+  pub found : Result Answer Failure
+  pub between : W
+  pub judges : JudgesAsked said ask (remaining old.0, contents old.1) (remaining new.0, contents between) errors found errors'
+  pub printed : IsPrintedIf contents between new.1 found ended
+
 -- what is concluded is printed: an answer, or a schedule and behind it the failure of its run; of a failure nothing is
 abbrev pub IsConcluded : {W : Type 0} → (W → Option (List ℕ)) → W → W → Result Conclusion Failure → Result ℕ Failure → Type 0
 IsConcluded contents old new (Ok (Answered answer)) ended = IsPrinted contents old new answer ended
@@ -158,8 +171,7 @@ pub record DeliversConclusion {W E : Type 0} (contents : W → Option (List ℕ)
   pub printed : IsConcluded contents old new found ended
 
 -- what is done on standard input and standard output, a pair, and on standard error before a failure is told: an answer is printed, a run
--- is judged, or a session is held; nothing else reads standard input, and a failure of a command leaves all as they are. `remaining` is
--- what is known of the bytes that a reader will still give
+-- is judged, or a session is held; but for `--ask` nothing else reads standard input, and a failure of a command leaves all as they are
 abbrev pub Delivers : {R W E : Type 0} → (R → Option (List ℕ)) → (W → Option (List ℕ)) → (E → Option (List ℕ)) → R × W → R × W → E → E
     → Result Action Failure → Result ℕ Failure → Type 0
 Delivers remaining contents said old new errors errors' (Ok (actions.Print answer)) ended =
@@ -170,6 +182,7 @@ Delivers remaining contents said old new errors errors' (Ok (actions.Check check
     (new.0 ≡ old.0) × DeliversCheck contents said check old.1 new.1 errors errors' ended
 Delivers remaining contents said old new errors errors' (Ok (actions.Judge judge)) ended =
     (new.0 ≡ old.0) × DeliversJudge contents said judge old.1 new.1 errors errors' ended
+Delivers remaining contents said old new errors errors' (Ok (actions.Ask ask)) ended = DeliversAsk remaining contents said ask old new errors errors' ended
 Delivers remaining contents said old new errors errors' (Ok (actions.CheckAll check)) ended =
     (new.0 ≡ old.0) × DeliversConclusion contents (ChecksAll said check) old.1 new.1 errors errors' ended
 Delivers remaining contents said old new errors errors' (Ok (actions.JudgeAll judge)) ended =

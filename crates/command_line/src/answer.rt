@@ -3,7 +3,7 @@
 ghost use Rattle.std.specs.Prelude.{◌≡◌, string_bytes};
 
 use crate::failure::Failure;
-use crate::opened::{OpenCheck, OpenCheckAll, OpenDebug, OpenJudge, OpenJudgeAll};
+use crate::opened::{OpenAsk, OpenCheck, OpenCheckAll, OpenDebug, OpenJudge, OpenJudgeAll};
 
 /// What a command prints on standard output, of whole lines, and the status that the program then ends with.
 #[derive(Drop)]
@@ -52,6 +52,8 @@ pub enum Action {
     Check(OpenCheck),
     /// The same by a recovery routine.
     Judge(OpenJudge),
+    /// The same by answers that are asked for on standard output, and replied to on standard input.
+    Ask(OpenAsk),
     /// Every schedule of a program is to be judged.
     CheckAll(OpenCheckAll),
     /// The same by a recovery routine.

@@ -3,16 +3,18 @@
 ghost use Rattle.std.specs.Prelude.{◌≡◌, IfOk, map, string_bytes};
 ghost use Rattle.std.specs.Result.{result_map_both};
 ghost use Rattle.arguments.specs.Line.{IsWithinLimits};
+ghost use Rattle.command_line.specs.Asking.{IsOpenAsk};
 ghost use Rattle.command_line.specs.Checking.{IsOpen};
 ghost use Rattle.command_line.specs.CheckingAll.{IsOpen as IsOpenCheckAll};
 ghost use Rattle.command_line.specs.Debugging.{IsOpen as IsOpenDebug};
 ghost use Rattle.command_line.specs.Judging.{IsOpen as IsOpenJudge};
 ghost use Rattle.command_line.specs.JudgingAll.{IsOpen as IsOpenJudgeAll};
 ghost use Rattle.command_line.specs.Outcomes.{AnswersFault, CarriesOut, ComesTo, IsReady};
-ghost use Rattle.command_line.specs.declared.answer.Action.TheVariants.{Check, CheckAll, Debug, Judge, JudgeAll, Print, PrintNoted};
+ghost use Rattle.command_line.specs.declared.answer.Action.TheVariants.{Ask, Check, CheckAll, Debug, Judge, JudgeAll, Print, PrintNoted};
 
 use crate::answer::{Action, Answer, NotedAnswer};
 use crate::answering::answer_file;
+use crate::asking::open_ask;
 use crate::asm::assemble_file;
 use crate::check::open_check;
 use crate::check_all::open_check_all;
@@ -28,7 +30,7 @@ use crate::judge::open_judge;
 use crate::judge_all::open_judge_all;
 use crate::listing::list_file;
 use crate::mkfs::make_file;
-use crate::opened::{OpenCheck, OpenCheckAll, OpenDebug, OpenJudge, OpenJudgeAll};
+use crate::opened::{OpenAsk, OpenCheck, OpenCheckAll, OpenDebug, OpenJudge, OpenJudgeAll};
 use crate::picture::picture_file;
 use crate::run::{replay_file, run_file};
 use crate::show::show_file;
@@ -84,6 +86,7 @@ fn carry_out<T: Threads + Wait + Sync, F: Files>(
         Command::Explain(command) => printed(explain_file(alloc, &command, files)),
         Command::Check(command) => opened(open_check(alloc, command, files)),
         Command::Judge(command) => judged(open_judge(alloc, command, files)),
+        Command::Ask(command) => asked(open_ask(alloc, command, files)),
         Command::CheckAll(command) => all_opened(open_check_all(alloc, command, files)),
         Command::JudgeAll(command) => all_judged(open_judge_all(alloc, command, files)),
         Command::Answer(command) => printed(answer_file(alloc, &command, files)),
@@ -128,6 +131,15 @@ fn judged(judge: Result<OpenJudge, Failure>) -> Result<Action, Failure>
     ensures ready { IfOk result IsReady }
 {
     Ok(Action::Judge(judge?))
+}
+
+/// Events are judged by answers that are asked for.
+fn asked(ask: Result<OpenAsk, Failure>) -> Result<Action, Failure>
+    requires { IfOk ask IsOpenAsk }
+    ensures is { result ≡ result_map_both Ask (λ failure. failure) ask }
+    ensures ready { IfOk result IsReady }
+{
+    Ok(Action::Ask(ask?))
 }
 
 /// Every schedule of a program is judged.

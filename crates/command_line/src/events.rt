@@ -1,5 +1,6 @@
 //! The events of which commands tell: those of a run, or of a trace file.
 
+ghost use Rattle.command_line.specs.Asking.{names_of};
 ghost use Rattle.command_line.specs.Traces.{AreOfRun, AreTold, HasPlaces, IsOpen, IsOpened, OpensEvents, OpensScheduled, OpensTrace, OpensTraceFile, SaysTrace, events_of, medium_of, name_in};
 ghost use Rattle.command_line.specs.declared.failure.Failure.TheVariants.{Memory};
 ghost use Rattle.crash_test.specs.Programs.{IsProgramOf};
@@ -64,6 +65,16 @@ impl OpenEvents {
         match self {
             OpenEvents::Run(_) => line,
             OpenEvents::Trace(open) => name_of(&open.ranked.names, line),
+        }
+    }
+
+    /// The names of a trace file's lines, by their ranks.
+    pub(crate) fn names(&self) -> &[u32]
+        ensures { result.now ≡ names_of self.now }
+    {
+        match self {
+            OpenEvents::Run(_) => &[],
+            OpenEvents::Trace(open) => open.ranked.names.as_slice(),
         }
     }
 

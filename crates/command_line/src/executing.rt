@@ -3,13 +3,15 @@
 ghost use Rattle.std.specs.Prelude.{IfOk, Ok, map, string_bytes};
 ghost use Rattle.command_line.specs.Checking.{IsOpen};
 ghost use Rattle.command_line.specs.AllSchedules.{FailsBehind};
+ghost use Rattle.command_line.specs.Asking.{IsOpenAsk};
 ghost use Rattle.command_line.specs.CheckingAll.{ChecksAll, IsOpen as IsOpenCheckAll};
 ghost use Rattle.command_line.specs.Judging.{IsOpen as IsOpenJudge};
 ghost use Rattle.command_line.specs.JudgingAll.{IsOpen as IsOpenJudgeAll, JudgesAll};
 ghost use Rattle.command_line.specs.Noting.{GetsNotes};
-ghost use Rattle.command_line.specs.Outcomes.{Delivers, DeliversCheck, DeliversConclusion, DeliversJudge, Ends, EndsWith, IsConcluded, IsPrinted, IsReady};
+ghost use Rattle.command_line.specs.Outcomes.{Delivers, DeliversAsk, DeliversCheck, DeliversConclusion, DeliversJudge, Ends, EndsWith, IsConcluded, IsPrinted, IsReady};
 
 use crate::answer::{Action, Answer, Conclusion, NotedAnswer};
+use crate::asking::judge_asked;
 use crate::check_all::check_every;
 use crate::commands::outcome;
 use crate::debug::hold_session;
@@ -17,7 +19,7 @@ use crate::failure::Failure;
 use crate::files::Files;
 use crate::judge_all::judge_every;
 use crate::noting::{judge_noted_check, judge_noted_run, write_notes};
-use crate::opened::{OpenCheck, OpenCheckAll, OpenJudge, OpenJudgeAll};
+use crate::opened::{OpenAsk, OpenCheck, OpenCheckAll, OpenJudge, OpenJudgeAll};
 use crate::streams::print;
 use crate::telling::{plain_words, tell_failure};
 use std::alloc::Global;
@@ -35,9 +37,8 @@ use std::time::Clock;
 /// refused, and with `--json` the object of a refusal. The lines of a failure go to standard error, with `--explain` also one that says more, and
 /// where they can't be written the status still stands. With `--whole` and without `--quiet`, `check`, `judge`, `unpersisted` and `waste` write notes
 /// there, before all else. With `--progress` `check`, `judge`, `check-all` and `judge-all` tell there, before a failure, how far they have come.
-/// Only the session of `debug` reads standard input, once its files have been read and its
-/// machine made. `run` of several harts, `check`, `judge`, `check-all` and `judge-all` start threads, of `rt`; what the last four print
-/// doesn't depend on how many, and what `run` prints is the run that its harts made.
+/// Only the session of `debug` and `judge --ask` read standard input, once their files have been read. `run` of several harts, `check`, `judge`,
+/// `check-all` and `judge-all` start threads, of `rt`; what the last four print doesn't depend on how many, and what `run` prints is the run that its harts made.
 pub fn execute<T: Threads + Wait + Sync + Clock, F: Files, R: Read, W: Write, E: Write>(
     rt: &T,
     alloc: Global,
@@ -91,6 +92,7 @@ fn deliver<T: Threads + Sync + Clock, R: Read, W: Write, E: Write>(
         Action::PrintNoted(noted) => print_noted(noted, output, errors),
         Action::Check(check) => deliver_check(rt, alloc, &check, output, errors),
         Action::Judge(judge) => deliver_judge(rt, alloc, &judge, output, errors),
+        Action::Ask(ask) => deliver_ask(rt, alloc, &ask, input, output, errors),
         Action::CheckAll(check) => deliver_check_all(rt, alloc, check, output, errors),
         Action::JudgeAll(judge) => deliver_judge_all(rt, alloc, judge, output, errors),
         Action::Debug(debug) => hold_session(alloc, debug, input, output),
@@ -122,6 +124,21 @@ fn deliver_judge<T: Threads + Sync + Clock, W: Write, E: Write>(
     ensures { DeliversJudge W.contents E.contents judge.now output.old output.new errors.old errors.new result }
 {
     let answer = judge_noted_run(rt, alloc, judge, errors)?;
+    print_answer(answer, output)
+}
+
+fn deliver_ask<T: Threads + Sync, R: Read, W: Write, E: Write>(
+    rt: &T,
+    alloc: Global,
+    ask: &OpenAsk,
+    input: &mut R,
+    output: &mut W,
+    errors: &mut E,
+) -> Result<u8, Failure>
+    requires { IsOpenAsk ask.now }
+    ensures { DeliversAsk R.remaining W.contents E.contents ask.now (input.old, output.old) (input.new, output.new) errors.old errors.new result }
+{
+    let answer = judge_asked(rt, alloc, ask, input, output, errors)?;
     print_answer(answer, output)
 }
 

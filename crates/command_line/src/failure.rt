@@ -44,6 +44,10 @@ pub enum Refusal {
     Operation(OpFault),
     /// The marks of a run without a plan.
     Marks(MarkFault),
+    /// A line of standard input that is no reply.
+    Reply,
+    /// The end of standard input where a reply should stand.
+    NoReply,
     /// The source of a recovery routine, by its first line at fault.
     RecoverySource(AsmFault),
     /// The file of a recovery routine that begins as an object.
@@ -76,6 +80,8 @@ impl Refusal {
             Refusal::Image => ImageFault::NotACut.code(),
             Refusal::Operation(fault) => fault.code(),
             Refusal::Marks(fault) => fault.code(),
+            Refusal::Reply => "V6",
+            Refusal::NoReply => "V7",
         }
     }
 

@@ -2,11 +2,12 @@
 
 ghost use Rattle.std.specs.Prelude.{◌≡◌, Some, option_map, string_bytes};
 ghost use Rattle.arguments.specs.declared.asked.Command.TheVariants.{Answer, Check, CheckAll, Judge, JudgeAll};
+ghost use Rattle.arguments.specs.declared.asked.EventSource.TheVariants as sources;
 ghost use Rattle.command_line.specs.FileNames.{is_json, names_in, names_of, names_of_machine, names_of_run, names_of_source, no_names};
 
 use arguments::{
     AnswerCommand, CheckAllCommand, CheckCommand, Command, EventSource, JudgeAllCommand,
-    JudgeCommand, MachineOptions, ScheduledRun,
+    JudgeCommand, MachineOptions, ScheduledRun, TracedEvents,
 };
 
 /// The names of the files that a command reads, each by what it has; None where the command reads none of this kind.
@@ -49,6 +50,7 @@ pub(crate) fn names_of(command: &Command) -> FileNames<'_>
         Command::Explain(command) => of_run(&command.run),
         Command::Check(command) => of_check(command),
         Command::Judge(command) => of_judge(command),
+        Command::Ask(command) => of_events(&command.events),
         Command::CheckAll(command) => of_check_all(command),
         Command::JudgeAll(command) => of_judge_all(command),
         Command::Answer(command) => of_answer(command),
@@ -71,6 +73,7 @@ pub(crate) fn is_json(command: &Command) -> bool
         Command::Images(command) => command.json,
         Command::Check(command) => command.judged.json,
         Command::Judge(command) => command.judged.json,
+        Command::Ask(command) => command.json,
         Command::CheckAll(command) => command.judged.json,
         Command::JudgeAll(command) => command.judged.json,
         _ => false,
@@ -128,11 +131,17 @@ fn of_source(source: &EventSource) -> FileNames<'_>
 {
     match source {
         EventSource::Run(run) => of_run(run),
-        EventSource::Trace(events) => FileNames {
-            trace: Some(events.file.as_str()),
-            medium: given(&events.medium),
-            ..NONE
-        },
+        EventSource::Trace(events) => of_events(events),
+    }
+}
+
+fn of_events(events: &TracedEvents) -> FileNames<'_>
+    ensures { names_in result ≡ names_of_source (sources.Trace events.now) }
+{
+    FileNames {
+        trace: Some(events.file.as_str()),
+        medium: given(&events.medium),
+        ..NONE
     }
 }
 

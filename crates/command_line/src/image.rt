@@ -1,7 +1,8 @@
 //! The command that writes a crash image.
 
 ghost use Rattle.command_line.specs.ImageFiles.{AreThere, GivesImage, GivesLines, HasFewNames, HasRankedLines, HasRoom, ImageFile, IsPlaced, IsUnranked, ReadsBytes, StartsBytes, StartsEvents, StartsOver, StartsRun, StartsTrace, ZeroBytes, file_line, rank_in, ranked_entry, ranked_image, ranked_name, with_lines};
-ghost use Rattle.command_line.specs.Traces.{IsOpen, events_of, name_in};
+ghost use Rattle.command_line.specs.Asking.{names_of};
+ghost use Rattle.command_line.specs.Traces.{HasPlaces, IsOpen, events_of, name_in};
 ghost use Rattle.std.specs.Prelude.{◌≡◌, ◌+◌, ◌*◌, ◌<◌, ◌≤◌, ◌==◌, ℕ, All, IfErr, IfNone, IfOk, IfSome, length, map, option_map, position, string_bytes};
 ghost use Rattle.std.specs.Result.{result_map_both};
 ghost use Rattle.crash_test.specs.declared.images.ImageLine.{ImageLine as AnImageLine};
@@ -99,7 +100,8 @@ fn over_medium(alloc: Global, made: MadeRun) -> Result<OpenStart, Failure>
     })
 }
 
-fn start_trace<F: Files>(
+/// The events of a trace file, with the bytes of a file that has each line which they name.
+pub(crate) fn start_trace<F: Files>(
     alloc: Global,
     events: &TracedEvents,
     files: &mut F,
@@ -107,6 +109,8 @@ fn start_trace<F: Files>(
     ensures starts { StartsTrace F.read_gives events.now files.old result files.new }
     ensures open { IfOk result (λ start. IsOpen start.events) }
     ensures room { IfOk result HasRoom }
+    ensures places { IfOk result (λ start. HasPlaces start.events) }
+    ensures few { IfOk result (λ start. length (names_of start.events) ≤ 16384) }
 {
     let text = read_file(events.file.as_str(), files)?;
     let ranked = trace_of(alloc, &text)?;
@@ -140,9 +144,12 @@ fn zero_bytes(alloc: Global) -> Result<Vec<u8>, Failure>
 fn over_bytes(alloc: Global, ranked: RankedTrace, bytes: Vec<u8>) -> Result<OpenStart, Failure>
     requires lines { All (NamesLine (length ranked.names.items)) ranked.trace.events }
     requires few { length ranked.names.items ≤ 16384 }
+    requires size { length ranked.places.items ≡ length ranked.trace.events }
     ensures starts { StartsBytes ranked bytes.items result }
     ensures open { IfOk result (λ start. IsOpen start.events) }
     ensures room { IfOk result HasRoom }
+    ensures places { IfOk result (λ start. HasPlaces start.events) }
+    ensures few { IfOk result (λ start. length (names_of start.events) ≤ 16384) }
 {
     if bytes.len() % LINE_SIZE != 0 {
         return Err(Failure::Refused(Refusal::Medium));
@@ -274,7 +281,7 @@ fn rank_in(names: &[u32], line: u32) -> u32
 }
 
 /// The place of a line among these.
-fn place_of(names: &[u32], line: u32) -> Option<usize>
+pub(crate) fn place_of(names: &[u32], line: u32) -> Option<usize>
     ensures place { result ≡ position (λ name. name == line) names.now }
     ensures bound { IfSome result (λ place. place < length names.now) }
 {

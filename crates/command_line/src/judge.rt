@@ -5,7 +5,7 @@ ghost use Rattle.arguments.specs.Line.{AreCutsOf, IsJudgedWithin, IsMachineWithi
 ghost use Rattle.arguments.specs.declared.asked.RightAnswers.TheVariants.{Atomic};
 ghost use Rattle.command_line.specs.Judging.{AreRunsFor, CopiesStart, IsOpen, IsReadyFor, IsRuleOf, JudgesOpen, KeepsStart, Notes, OpensJudge, OpensSubject, OpensSubjectOfFile, OpensSubjectOfRun, TellsProgress, Watches, cause_text, judgement_asked, judges_none, missing_text, note_if};
 ghost use Rattle.command_line.specs.JudgingOnce.{JudgesOnce};
-ghost use Rattle.command_line.specs.JudgingRuns.{JudgesRight, JudgesRun};
+ghost use Rattle.command_line.specs.JudgingRuns.{JudgesRight, JudgesRun, JudgesWith};
 ghost use Rattle.command_line.specs.Reading.{setup_of};
 ghost use Rattle.routine_judge.specs.Rules.{AreNotedFor, judgement_view};
 ghost use Rattle.command_line.specs.Progress.{IsToldIf};
@@ -27,6 +27,7 @@ use crate::reading::{ReadRoutine, RunFiles, read_routine, read_run};
 use crate::reasons::why_of;
 use crate::streams::print;
 use crate::told_answers::{answers_of, judged_answer};
+use crate::told_full::with_full_answers;
 use crate::verdicts::{ToldCause, work};
 use crate::whole::demand_whole;
 use arguments::{EventSource, JudgeCommand, RightAnswers, ScheduledRun, TracedEvents};
@@ -245,7 +246,7 @@ fn runs_for<T: Threads + Sync>(
     sequential_runs(rt, alloc, start, recovery, judge.command.states)
 }
 
-/// Gives the verdict on events by a rule for right answers, with power cuts in recovery where the line asks for them.
+/// Gives the verdict on events by a rule for right answers, and behind a pass the answers on all full images where the line asks for them.
 fn judge_by<T: Threads + Sync + Clock, E: Write>(
     rt: &T,
     alloc: Global,
@@ -256,6 +257,22 @@ fn judge_by<T: Threads + Sync + Clock, E: Write>(
     requires open { IsOpen judge.now }
     requires rule { IsRuleOf judge.now rule }
     ensures { JudgesRight E.contents judge.now errors.old result errors.new }
+{
+    let answer = judge_with(rt, alloc, judge, rule, errors)?;
+    with_full_answers(alloc, judge, rule, answer)
+}
+
+/// The verdict alone, with power cuts in recovery where the line asks for them.
+fn judge_with<T: Threads + Sync + Clock, E: Write>(
+    rt: &T,
+    alloc: Global,
+    judge: &OpenJudge,
+    rule: Rule<'_>,
+    errors: &mut E,
+) -> Result<Answer, Failure>
+    requires open { IsOpen judge.now }
+    requires rule { IsRuleOf judge.now rule }
+    ensures { JudgesWith E.contents judge.now judge.now.command.cuts errors.old result errors.new }
 {
     match judge.command.cuts {
         None => judge_once(rt, alloc, judge, rule, errors),
@@ -350,7 +367,7 @@ pub(crate) fn judgement<'a>(judge: &'a OpenJudge, rule: Rule<'a>) -> Judgement<'
 }
 
 /// Whether the verdict is on no moment.
-fn judges_none<C>(verdict: &Verdict<C>) -> bool
+pub(crate) fn judges_none<C>(verdict: &Verdict<C>) -> bool
     ensures { result ≡ judges_none verdict.now }
 {
     matches!(verdict, Verdict::Pass { moments: 0, .. })

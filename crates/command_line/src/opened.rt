@@ -1,7 +1,7 @@
 //! Runs that are to be judged.
 
 use crate::events::OpenEvents;
-use arguments::{CheckAllCommand, CheckCommand, JudgeAllCommand, JudgeCommand};
+use arguments::{AskCommand, CheckAllCommand, CheckCommand, JudgeAllCommand, JudgeCommand};
 use machine::{Machine, Setup};
 use plan::Plan;
 use program::Program;
@@ -24,6 +24,14 @@ pub struct OpenJudge {
     /// The bytes of the recovery routine's file.
     pub(crate) recovery_file: Vec<u8>,
     pub(crate) recovery: Program,
+}
+
+/// The events of a trace file that are judged by answers which are asked for. Its files have been read.
+#[derive(Drop)]
+pub struct OpenAsk {
+    pub(crate) command: AskCommand,
+    /// By the ranks of their lines.
+    pub(crate) events: OpenEvents,
 }
 
 /// A program of which every schedule is to be judged by a plan. Its files have been read.

@@ -67,7 +67,7 @@ impl<W: Write> Sink for StandardOutput<'_, W> {
 
 /// Reads into the front of a buffer. A read that a signal interrupts is made again.
 #[tactic(auto, using(crate::proofs::Kept::kept_more, crate::proofs::Kept::kept_read))]
-fn read_uninterrupted<R: Read>(input: &mut R, buffer: &mut [u8]) -> Result<usize, Failed>
+pub(crate) fn read_uninterrupted<R: Read>(input: &mut R, buffer: &mut [u8]) -> Result<usize, Failed>
     ensures fits { IfOk result (λ count. count ≤ length buffer.new) }
     ensures bytes { ReadConsumes (R.remaining input.old) (R.remaining input.new) result buffer.new }
 {

@@ -114,7 +114,7 @@ pub(crate) fn work(judged: &JudgedRun) -> Work
 }
 
 /// The first and the last of the moments asked for.
-fn bounds(moments: Option<Moments>) -> (u32, Option<u32>)
+pub(crate) fn bounds(moments: Option<Moments>) -> (u32, Option<u32>)
     requires { IfSome moments IsUpward }
     ensures first { result.0 ≡ first_of moments }
     ensures last { result.1 ≡ last_of moments }
@@ -143,7 +143,7 @@ pub(crate) fn told_pass(
 }
 
 /// The moments pass but those that are open.
-fn told_open(
+pub(crate) fn told_open(
     alloc: Global,
     moments: u64,
     images: Option<u64>,
@@ -160,7 +160,7 @@ fn told_open(
 }
 
 /// An image of a moment is bad.
-fn told_fail(
+pub(crate) fn told_fail(
     alloc: Global,
     moment: u32,
     image: &ImageName,
@@ -178,7 +178,7 @@ fn told_fail(
 }
 
 /// A moment has over 65,536 branches.
-fn told_too_many(
+pub(crate) fn told_too_many(
     alloc: Global,
     moment: u32,
     lines: &Option<WidestLines>,

@@ -33,7 +33,7 @@ pub use loading::{ProgramFault, load_object, load_program, one_program};
 pub use losses::{ExplainedImage, explain_losses, tell_losses};
 pub use places::places_of;
 pub use reading::RoutineReader;
-pub use routine_judge::{Judgement, RightAnswer, right_answers};
+pub use routine_judge::{FullAnswers, Judgement, RightAnswer, full_answers, right_answers};
 pub use runs::{TogetherFault, record_run, replay, run_program, start_program};
 pub use verdict::{Progress, Unwatched};
 pub use volumes::{default_medium, make_volume};

@@ -34,3 +34,15 @@ answer_object bytes = codes "{\"kind\":\"answer\"," ++ (bytes_members bytes ++ o
 abbrev pub right_object : List ℕ → ℕ → List ℕ
 right_object bytes moment =
     codes "{\"kind\":\"right\"," ++ (bytes_members bytes ++ (codes ",\"moment\":" ++ (decimal moment ++ object_end)))
+
+-- `answers N, at the end LAST`
+abbrev pub answers_line : ℕ → List ℕ → List ℕ
+answers_line different last = codes "answers " ++ (decimal different ++ (codes ", at the end " ++ (last ++ line_end)))
+
+-- `{"kind":"answers","different":N,LAST}`
+abbrev pub answers_object : ℕ → List ℕ → List ℕ
+answers_object different last = codes "{\"kind\":\"answers\",\"different\":" ++ (decimal different ++ (codes "," ++ (last ++ object_end)))
+
+-- `"cause":"C"`
+abbrev pub cause_member : List ℕ → List ℕ
+cause_member cause = codes "\"cause\":\"" ++ (cause ++ codes "\"")

@@ -1,6 +1,6 @@
 //! What is printed of the answer of a recovery routine.
 
-ghost use Rattle.report.specs.Answers.{answer_line, answer_object, answer_text, bytes_members, digits_text, right_line, right_object};
+ghost use Rattle.report.specs.Answers.{answer_line, answer_object, answer_text, answers_line, answers_object, bytes_members, cause_member, digits_text, right_line, right_object};
 ghost use Rattle.report.specs.Rows.{two_digits};
 ghost use Rattle.std.specs.Prelude.{◌≡◌, ◌++◌, IfOk, OnOk, string_bytes, take};
 
@@ -42,8 +42,30 @@ pub fn right_object(alloc: Global, answer: &[u8], moment: u32) -> Result<String,
     format!(in alloc; "{{\"kind\":\"right\",{members},\"moment\":{moment}}}\n")
 }
 
+/// The line of how many different answers the full images of a run give, and of what that at its end gives, the text of an answer or the
+/// word for why it has none: `answers 6, at the end 8 bytes 0500000000000000`.
+pub fn answers_line(alloc: Global, different: usize, last: &str) -> Result<String, AllocError>
+    ensures { IfOk result (λ text. string_bytes text ≡ answers_line different last.now) }
+{
+    format!(in alloc; "answers {different}, at the end {last}\n")
+}
+
+/// The same as an object, by the members of what is at its end: `{"kind":"answers","different":6,"bytes":8,"hex":"0500000000000000"}`.
+pub fn answers_object(alloc: Global, different: usize, last: &str) -> Result<String, AllocError>
+    ensures { IfOk result (λ text. string_bytes text ≡ answers_object different last.now) }
+{
+    format!(in alloc; "{{\"kind\":\"answers\",\"different\":{different},{last}}}\n")
+}
+
+/// The word for why there is no answer, as a member of an object: `"cause":"exit-1"`.
+pub fn cause_member(alloc: Global, cause: &str) -> Result<String, AllocError>
+    ensures { IfOk result (λ text. string_bytes text ≡ cause_member cause.now) }
+{
+    format!(in alloc; "\"cause\":\"{cause}\"")
+}
+
 /// How many bytes an answer has, and the first 64 of them, as members of an object.
-fn bytes_members(alloc: Global, answer: &[u8]) -> Result<String, AllocError>
+pub fn bytes_members(alloc: Global, answer: &[u8]) -> Result<String, AllocError>
     ensures { IfOk result (λ text. string_bytes text ≡ bytes_members answer.now) }
 {
     let digits = digits_text(alloc, shown(answer))?;
@@ -52,7 +74,7 @@ fn bytes_members(alloc: Global, answer: &[u8]) -> Result<String, AllocError>
 }
 
 /// How many bytes an answer has, and the first 64 of them in hexadecimal: `8 bytes 0500000000000000`.
-fn answer_text(alloc: Global, answer: &[u8]) -> Result<String, AllocError>
+pub fn answer_text(alloc: Global, answer: &[u8]) -> Result<String, AllocError>
     ensures { IfOk result (λ text. string_bytes text ≡ answer_text answer.now) }
 {
     let digits = digits_text(alloc, shown(answer))?;

@@ -21,7 +21,10 @@ mod redundant;
 mod slips;
 mod told;
 
-pub use answer::{answer_line, answer_object, right_line, right_object};
+pub use answer::{
+    answer_line, answer_object, answer_text, answers_line, answers_object, bytes_members,
+    cause_member, right_line, right_object,
+};
 pub use causes::unfinished_text;
 pub use disassembly::listing_text;
 pub use events::{PlacedEvent, hart_of, trace_text};

@@ -1,5 +1,5 @@
 -- The right answers of some moments, each with the moment that gives it, one moment more.
-use Rattle.std.proofs.Common.{◌≡◌, ◌||◌, ◌==◌, ◌⊎◌, ℕ, ◌+◌, ◌<◌, ◌≤◌, Bool, true, false, nat_lt, inl, inr, refl, List, [], ◌∷◌, ◌++◌, length, length-append, get_or, sym, subst, ◌∙◌, arith, Result, Ok, Err, eqb-true}
+use Rattle.std.proofs.Common.{◌≡◌, ◌||◌, ◌==◌, ◌⊎◌, ℕ, ◌+◌, ◌<◌, ◌≤◌, Bool, true, false, nat_le, nat_lt, inl, inr, refl, List, [], ◌∷◌, ◌++◌, length, length-append, get_or, ap, sym, subst, ◌∙◌, arith, Result, Ok, Err, eqb-true}
 use Rattle.std.specs.Prelude.{◌&&◌}
 use Rattle.std.specs.List.{All, AllPairs, Any}
 use Rattle.std.proofs.lemmas.Bool.{cases_eq}
@@ -11,7 +11,7 @@ use Rattle.recovery.specs.declared.recovery_run.Cause as run
 use Rattle.routine_judge.proofs.Gathering.{here_too, or_cases, or_first, shows_once}
 use Rattle.routine_judge.specs.Images.{full_cut}
 use Rattle.routine_judge.specs.RightAnswers.{IsRightWindow, ShowsFull, is_among}
-use Rattle.routine_judge.specs.RightMoments.{AreGivenBy, IsAddedOnce, IsLeastOf, gives}
+use Rattle.routine_judge.specs.RightMoments.{AreGivenBy, IsAddedOnce, IsLeastOf, gives, is_moment}
 use Rattle.routine_judge.specs.Views.{JudgeView}
 use Rattle.routine_judge.specs.Windows.{IsWindow}
 use Rattle.routine_judge.specs.declared.history.moments.Window.{Window}
@@ -193,3 +193,17 @@ among_within view m i (Through first last) there is either through t =
     let lies = through is.0 last is.1 in
     let e : i ≤ last = grind (arith, nat_tests, t) in
     omega (arith, e, lies)
+
+-- all moments of the run, as those of a window
+pub all_inside : (count m i : ℕ) → is_among (Through 0 count) m i ≡ true → i < count + 1
+all_inside count m i t =
+    let e : i ≤ count = grind (arith, nat_tests, t) in
+    omega (arith, e)
+
+pub all_alike : (count m i : ℕ) → is_among (Through 0 count) m i ≡ nat_le i count
+all_alike count m i = grind (arith, nat_tests)
+
+pub full_given : (view : JudgeView) (last m : ℕ) (right : List RightAnswer) → last ≡ length view.events → AreGivenBy view (is_among (Through 0 last) m) right →
+    AreGivenBy view (is_moment view) right
+full_given view last m right is are =
+    given_alike view (is_among (Through 0 last) m) (is_moment view) right (λ i. all_alike last m i ∙ ap (λ (n : ℕ). nat_le i n) is) are

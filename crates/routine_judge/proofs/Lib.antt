@@ -41,3 +41,7 @@ pub mod Unsettled
 pub mod PlainRight
 pub mod WidePassing
 pub mod GivenAnswers
+pub mod OutsideAgreeing
+pub mod OutsideAsking
+pub mod OutsideMeaning
+pub mod OutsideGoing

@@ -32,3 +32,9 @@ pub mod CutRows
 pub mod WidePasses
 pub mod CutJudges
 pub mod RightMoments
+pub mod OutsideViews
+pub mod Outside
+pub mod OutsideTables
+pub mod OutsideBranches
+pub mod OutsideJudging
+pub mod OutsideLoops

@@ -1,9 +1,10 @@
 -- The right answers of a moment, each with the moment that gives it.
-use Rattle.std.specs.Prelude.{◌≡◌, ◌⊎◌, ℕ, ◌<◌, ◌≤◌, Bool, true, List, [], ◌∷◌, ◌++◌, Ok}
+use Rattle.std.specs.Prelude.{◌≡◌, ◌⊎◌, ℕ, ◌<◌, ◌≤◌, Bool, true, nat_le, List, [], ◌∷◌, ◌++◌, length, Ok}
 use Rattle.std.specs.List.{All, AllPairs, Any}
 use Rattle.routine_judge.specs.RightAnswers.{IsRightWindow, ShowsFull, is_among}
 use Rattle.routine_judge.specs.Views.{JudgeView}
 use Rattle.routine_judge.specs.declared.history.moments.Window.{Window}
+use Rattle.routine_judge.specs.declared.right_moments.FullAnswers.{FullAnswers}
 use Rattle.routine_judge.specs.declared.right_moments.RightAnswer.{RightAnswer}
 
 -- it is these bytes
@@ -27,6 +28,15 @@ pub record AreRightAt (view : JudgeView) (m : ℕ) (right : List RightAnswer) : 
   pub window : Window
   pub is_window : IsRightWindow view m window
   pub given : AreGivenBy view (is_among window m) right
+
+-- i is a moment of the run
+abbrev pub is_moment : JudgeView → ℕ → Bool
+is_moment view i = nat_le i (length view.events)
+
+-- These are the answers on the full images of all moments of the run, each once, and what the routine comes to on that of the last one.
+pub record AreFullAnswers (view : JudgeView) (answers : FullAnswers) : Type 0 where
+  pub given : AreGivenBy view (is_moment view) answers.given.items
+  pub last : ShowsFull view (length view.events) answers.last
 
 -- with one answer more, unless it is there
 abbrev pub IsAddedOnce : RightAnswer → List RightAnswer → List RightAnswer → Type 0

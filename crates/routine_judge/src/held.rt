@@ -50,6 +50,16 @@ impl HeldAnswer {
         })
     }
 
+    /// The answer of these bytes.
+    pub fn of(alloc: Global, bytes: &[u8]) -> Result<HeldAnswer, AllocError>
+        ensures { IfOk result (λ answer. answer ≡ bytes.now) }
+    {
+        let bytes = Vec::from_slice(alloc, bytes)?;
+        Ok(HeldAnswer {
+            held: Held::Copy(bytes),
+        })
+    }
+
     /// The same answer once more.
     pub fn copy(&self, alloc: Global) -> Result<HeldAnswer, AllocError>
         ensures { IfOk result (λ copy. copy ≡ self.now) }

@@ -18,6 +18,7 @@ mod images_judge;
 mod judge;
 mod judging;
 mod order;
+mod outside;
 mod passing;
 mod right;
 mod right_moments;
@@ -47,8 +48,9 @@ pub use order::{
     Operation, Precedence, SequentialRun, SequentialRuns, SequentialState, Word, precedences_stand,
     sequential_states_stand,
 };
+pub use outside::{Answering, OutsideCause, OutsideFault, OutsideRun, Reply, Wanted};
 pub use right::RightAnswers;
-pub use right_moments::{RightAnswer, right_answers};
+pub use right_moments::{FullAnswers, RightAnswer, full_answers, right_answers};
 pub use rule::{ProgramRuns, Rule};
 pub use run::MarkedRun;
 pub use verdict::{ImageName, ImagesVerdict, MomentVerdict, Verdict};

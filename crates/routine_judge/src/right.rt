@@ -107,7 +107,7 @@ impl RightAnswers {
     }
 
     /// Adds an answer, unless it is there.
-    fn add_answer(&mut self, answer: HeldAnswer) -> Result<(), AllocError>
+    pub(crate) fn add_answer(&mut self, answer: HeldAnswer) -> Result<(), AllocError>
         ensures answers { OnOk result ((bytes : List ℕ) → Contains self.new.answers.items bytes ↔ (Contains self.old.answers.items bytes ⊎ (bytes ≡ answer))) }
         ensures cause { self.new.last_cause ≡ self.old.last_cause }
         ensures on { self.new.runs_on ≡ self.old.runs_on }
@@ -120,7 +120,7 @@ impl RightAnswers {
     }
 
     /// Whether the bytes are a right answer.
-    fn has(&self, bytes: &[u8]) -> bool
+    pub(crate) fn has(&self, bytes: &[u8]) -> bool
         ensures { IsTrue result ↔ Contains self.now.answers.items bytes.now }
     {
         self.answers.iter().any(|right| right.bytes() == bytes)

@@ -2,12 +2,12 @@
 
 ghost use Rattle.crash_image.specs.View.{HasLines};
 ghost use Rattle.routine_judge.specs.RightAnswers.{IsRightWindow, ShowsFull, is_among};
-ghost use Rattle.routine_judge.specs.RightMoments.{AreGivenBy, AreRightAt, IsAddedOnce, gives};
+ghost use Rattle.routine_judge.specs.RightMoments.{AreFullAnswers, AreGivenBy, AreRightAt, IsAddedOnce, gives};
 ghost use Rattle.routine_judge.specs.Rules.{AreNotedFor, overlap_of, right_by};
 ghost use Rattle.routine_judge.specs.Verdicts.{IsRefusal};
 ghost use Rattle.routine_judge.specs.Views.{JudgeView, own_moments};
 ghost use Rattle.std.specs.List.{Any};
-ghost use Rattle.std.specs.Prelude.{◌≡◌, ◌↔◌, ◌||◌, ◌==◌, ◌<◌, ◌≤◌, ℕ, Bool, true, length, IfErr, IfOk, IsTrue, OnOk};
+ghost use Rattle.std.specs.Prelude.{◌≡◌, ◌↔◌, ◌||◌, ◌==◌, ◌+◌, ◌<◌, ◌≤◌, ℕ, Bool, true, length, IfErr, IfOk, IsTrue, OnOk};
 
 use crate::JudgeFault;
 use crate::answers::{MomentAnswers, run_full};
@@ -25,6 +25,15 @@ use store_trace::Trace;
 pub struct RightAnswer {
     pub moment: u32,
     pub answer: Answer,
+}
+
+/// What a routine comes to on the full images of all moments of a run.
+#[derive(Drop)]
+pub struct FullAnswers {
+    /// Its answers, each once, with the least moment that gives it, upwards by these moments.
+    pub given: Vec<RightAnswer>,
+    /// What it comes to on that of the last moment: its answer, or why it has none.
+    pub last: Result<Answer, RunCause>,
 }
 
 /// The right answers of a moment of the trace, each once, upwards by the moments that give them. The trace started from the medium, which has
@@ -70,9 +79,53 @@ fn answers_at(
     requires own { run.now.right ≡ own_moments }
     ensures { IfOk result (λ right. AreRightAt run.now moment right.items) }
 {
+    windows_lie_in_the_run();
     let mut routine = run.routine(alloc)?;
     let window = window_of(alloc, run, &mut routine, moment)?;
     given_by(alloc, run, &mut routine, window, moment)
+}
+
+/// What the routine comes to on the full images of all moments of the trace, whichever answers the judgement says are right. A full image has
+/// all stores, so no power cut shows in them. The trace started from the medium, which has every line that the trace names.
+///
+/// # Errors
+/// A wrong mark of an operation, or that there is none. Memory where a growth is refused.
+#[tactic(auto, using(crate::proofs::Begun::sound_begin))]
+pub fn full_answers(
+    alloc: Global,
+    medium: &Medium,
+    trace: &Trace,
+    judgement: Judgement<'_>,
+) -> Result<FullAnswers, JudgeFault>
+    requires lines { HasLines medium.now trace.now.events }
+    requires runs { AreNotedFor medium.now judgement.recovery.now judgement.steps judgement.rule }
+    ensures ok { IfOk result (AreFullAnswers (record {
+      routine = judgement.entry.recovery.now;
+      steps = judgement.entry.steps;
+      start = medium.now;
+      events = trace.now.events;
+      right = right_by judgement.entry.rule;
+    })) }
+    ensures err { IfErr result (IsRefusal (overlap_of judgement.entry.rule) trace.now.events 0) }
+{
+    let run = MarkedRun::new(alloc, medium, trace, judgement)?;
+    Ok(full_answers_of(alloc, &run)?)
+}
+
+/// Those of a run.
+fn full_answers_of(alloc: Global, run: &MarkedRun<'_>) -> Result<FullAnswers, AllocError>
+    ensures { IfOk result (AreFullAnswers run.now) }
+{
+    let mut routine = run.routine(alloc)?;
+    let moment = run.moments() - 1;
+    let end = moment as usize;
+    let last = run_full(alloc, run, &mut routine, end)?;
+    let all = Window::Through {
+        first: 0,
+        last: end,
+    };
+    let given = given_by(alloc, run, &mut routine, all, moment)?;
+    Ok(FullAnswers { given, last })
 }
 
 /// The window of a moment, without the moments before a change that has to last.
@@ -97,7 +150,7 @@ fn window_of(
     }
 }
 
-/// The answers on the full images of the moments of a window.
+/// The answers on the full images of the moments of a window, which lies in the run.
 fn given_by(
     alloc: Global,
     run: &MarkedRun<'_>,
@@ -105,13 +158,11 @@ fn given_by(
     window: Window,
     moment: u32,
 ) -> Result<Vec<RightAnswer>, AllocError>
-    requires there { moment ≤ length run.now.events }
-    requires window { IsRightWindow run.now moment window }
+    requires inside { (i : ℕ) → is_among window moment i ≡ true → i < length run.now.events + 1 }
     requires program { routine.old.program ≡ run.now.routine }
     requires lines { routine.old.lines ≡ length run.now.start }
     ensures { IfOk result (λ right. AreGivenBy run.now (is_among window moment) right.items) }
 {
-    windows_lie_in_the_run();
     let mut right = Vec::new(alloc);
     for at in 0..run.moments() {
         if is_among(window, moment, at) {

@@ -177,7 +177,7 @@ fn sources_of<'a>(alloc: Global, trace: &Trace, rule: Rule<'a>) -> Result<Source
 
 /// The first moment that is judged: right after the first Begin, and past the last moment where there is none.
 #[tactic(auto, using(crate::proofs::Beginning::begins_here, crate::proofs::Beginning::begins_later, crate::proofs::Beginning::begins_nowhere))]
-fn first_judged(events: &[Event]) -> u32
+pub(crate) fn first_judged(events: &[Event]) -> u32
     requires { length events.now ≤ 65536 }
     ensures { result ≡ first_judged events.now }
 {

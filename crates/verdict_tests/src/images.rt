@@ -2,6 +2,7 @@
 //! stand apart, so that those crates aren't proved a second time for
 //! them. The crate has tests alone.
 
+mod asked;
 mod branches_opened;
 mod bytes_asked;
 pub(crate) mod either_medium;

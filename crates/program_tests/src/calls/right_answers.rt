@@ -1,7 +1,10 @@
 //! What recovery answers on an image, and what is right at its moment. Both are worked out by hand.
 
 use crate::calls::starts::{loaded, run_of};
-use crash_test::{Events, Judgement, RoutineReader, answer_at, right_answers};
+use crash_test::{
+    Events, FullAnswers, Judgement, RightAnswer, RoutineReader, answer_at, full_answers,
+    right_answers,
+};
 use machine::Run;
 use program::Program;
 use routine_judge::Rule;
@@ -63,6 +66,40 @@ fn right(alloc: Global) -> Option<(u32, u8)> {
     }
 }
 
+/// What recovery comes to on the full images of all moments.
+fn full(alloc: Global) -> Option<FullAnswers> {
+    let run = stored_again(alloc)?;
+    let program = shown(alloc)?;
+    let judgement = Judgement {
+        recovery: &program,
+        steps: STEPS,
+        rule: Rule::InTurn,
+    };
+    full_answers(alloc, run.start(), run.trace(), judgement).ok()
+}
+
+/// The moments and the first bytes of the different answers, where there are three of eight bytes each.
+fn given(alloc: Global) -> Option<((u32, u8), (u32, u8), (u32, u8))> {
+    let full = full(alloc)?;
+    match full.given.as_slice() {
+        [one, two, three] => Some((told(one)?, told(two)?, told(three)?)),
+        _ => None,
+    }
+}
+
+fn told(given: &RightAnswer) -> Option<(u32, u8)> {
+    Some((given.moment, first_of_eight(given.answer.bytes())?))
+}
+
+/// The first byte of the answer at the last moment, of eight bytes.
+fn last(alloc: Global) -> Option<u8> {
+    let full = full(alloc)?;
+    match &full.last {
+        Ok(answer) => first_of_eight(answer.bytes()),
+        Err(_) => None,
+    }
+}
+
 fn first_of_eight(bytes: &[u8]) -> Option<u8> {
     match bytes {
         [first, 0, 0, 0, 0, 0, 0, 0] => Some(*first),
@@ -84,4 +121,13 @@ fn recovery_answers_by_the_image(rt: HostRuntime) {
 fn a_right_answer_is_told_once(rt: HostRuntime) {
     let found = right(rt.alloc());
     assert!(rt; found == Some((3, 5)), "{found:?}");
+}
+
+/// The medium has 0, then 5, with its first store, 7 with its second, and 5 again from then on.
+#[test]
+fn full_images_give_each_answer_once(rt: HostRuntime) {
+    let found = given(rt.alloc());
+    assert!(rt; found == Some(((0, 0), (1, 5), (5, 7))), "{found:?}");
+    let end = last(rt.alloc());
+    assert!(rt; end == Some(5), "{end:?}");
 }

@@ -5,7 +5,7 @@ ghost use Rattle.arguments.specs.Codes.{texts_of_rows, traces};
 
 use crate::codes::table::Row;
 
-static TRACES: [Row; 5] = [
+static TRACES: [Row; 7] = [
     (
         "V1",
         "no line of a trace file",
@@ -30,6 +30,16 @@ static TRACES: [Row; 5] = [
         "V5",
         "a trace file that ends before `events N`, or goes on behind it",
         "Let the program that writes it run to its end, and write one trace to a file.",
+    ),
+    (
+        "V6",
+        "a line on standard input that is no reply to the image that was asked for",
+        "Reply `answer` and the answer's bytes in hexadecimal digits, or `none` and a word, and behind either `loads` and the lines loaded.",
+    ),
+    (
+        "V7",
+        "standard input that ends before the reply to an image that was asked for",
+        "Look why the program that replies ended: it has to reply to each request until it reads the verdict.",
     ),
 ];
 

@@ -44,6 +44,9 @@ returns-in-Check-clause-carries g c = rw c.in-Check.is (record { found = c.open_
 pub returns-in-Judge-clause-carries : goal.returns-in-Judge-clause-carries
 returns-in-Judge-clause-carries g c = rw c.in-Judge.is (record { found = c.open_judge.result; finding = c.open_judge.ensures.opens; leads = c.judged.ensures.is })
 
+pub returns-in-Ask-clause-carries : goal.returns-in-Ask-clause-carries
+returns-in-Ask-clause-carries g c = rw c.in-Ask.is (record { found = c.open_ask.result; finding = c.open_ask.ensures.opens; leads = c.asked.ensures.is })
+
 pub returns-in-CheckAll-clause-carries : goal.returns-in-CheckAll-clause-carries
 returns-in-CheckAll-clause-carries g c = rw c.in-CheckAll.is (record { found = c.open_check_all.result; finding = c.open_check_all.ensures.opens; leads = c.all_opened.ensures.is })
 

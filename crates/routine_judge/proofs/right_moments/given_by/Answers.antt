@@ -1,7 +1,7 @@
 -- One moment of the window more, and in the end all of them.
 use Rattle.std.proofs.Common.{◌∙◌, sym, arith}
 use Rattle.routine_judge.specs.RightAnswers.{is_among}
-use Rattle.routine_judge.proofs.GivenAnswers.{among_within, given_left, given_taken, given_whole}
+use Rattle.routine_judge.proofs.GivenAnswers.{given_left, given_taken, given_whole}
 use Rattle.routine_judge.proofs.right_moments.given_by.Goals as goal
 use Rattle.routine_judge.proofs.right_moments.given_by.Goals.{then-is_among+in_ok-found+in_ok-add, else-is_among}
 
@@ -23,11 +23,8 @@ loop-at-preserved c = elim c.if-is_among.branch [
 
 pub returns : goal.returns
 returns c =
-    let view = c.args.run.now in
-    given_whole view (is_among c.args.window c.args.moment) c.loop-at.at c.loop-at.right.items
+    given_whole c.args.run.now (is_among c.args.window c.args.moment) c.loop-at.at c.loop-at.right.items
     (λ j t.
-    let within = among_within view c.args.moment j c.args.window c.requires.there c.requires.window
-    (λ before after is. c.windows_lie_in_the_run.ensures.either view.events c.args.moment before after c.requires.there is)
-    (λ first last is. c.windows_lie_in_the_run.ensures.through view.events c.args.moment first last c.requires.there is) t in
+    let within = c.requires.inside j t in
     omega (arith, within, c.loop-at-test.false, c.moments-at-end.ensures.count))
     c.loop-at.invariant.given

@@ -6,7 +6,7 @@ use Rattle.arguments.specs.declared.asked.LineFault.{LineFault}
 use Rattle.arguments.specs.declared.asked.JudgeCommand.{JudgeCommand}
 use Rattle.arguments.proofs.Lines.{says_more}
 use Rattle.arguments.proofs.Traced.{no_cuts, no_program}
-use Rattle.arguments.proofs.commands.judge.Goals as goal
+use Rattle.arguments.proofs.commands.judge_by_routine.Goals as goal
 
 pub returns-in_err-judged-clause-err : goal.returns-in_err-judged-clause-err
 returns-in_err-judged-clause-err c =

@@ -1,0 +1,13 @@
+-- What the session has asked for is what its streams show.
+use Rattle.command_line.proofs.Asked.{failure_stays, fault_stays, found_failure, found_fault, found_verdict, verdict_stays}
+use Rattle.command_line.proofs.asking.judge_by_replies.Goals as goal
+
+pub returns-in-Ok-clause-same : goal.returns-in-Ok-clause-same
+returns-in-Ok-clause-same g c =
+    let kept = verdict_stays _ _ _ _ _ _ _ _ _ _ _ _ (rw c.in-Ok.is at c.judge.ensures.ok) in (kept.0, kept.1)
+
+pub returns-in-Ok-clause-finds : goal.returns-in-Ok-clause-finds
+returns-in-Ok-clause-finds g c = record {
+  finds = found_verdict _ _ _ _ _ c.args.ask.now _ _ _ c.requires.told c.requires.sound c.requires.begins
+      (rw (c.requires.start, c.requires.events, c.bounds.ensures.first, c.bounds.ensures.last, c.in-Ok.is) at c.judge.ensures.ok);
+}
