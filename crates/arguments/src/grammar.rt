@@ -390,7 +390,7 @@ static RUNNING: [Subcommand; 3] = [
         arguments: &[PROGRAM, MEDIUM, HARTS, CAPACITY],
         ending: ending!(
             "debug append.s --medium append.medium",
-            "Commands of the session: break A, watch A, clear A, step H, go [ITEMS], regs H, where H, peek A N, quit.\nOf an ELF file break and clear also take NAME, NAME+0xOFF and FILE:LINE.\n\n"
+            "Commands of the session: break A, watch A, clear A, step H, go [ITEMS], regs H, where H, peek A N, quit.\nOf a source break and clear also take a label, of an ELF file NAME, NAME+0xOFF and FILE:LINE.\n\n"
         ),
     },
 ];

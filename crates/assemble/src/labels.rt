@@ -9,7 +9,7 @@ use std::collections::HashMap;
 
 /// The labels that lines define, each with its place.
 #[derive(Drop)]
-pub(crate) struct Labels<'a> {
+pub struct Labels<'a> {
     places: HashMap<&'a [u8], u32>,
 }
 
@@ -28,7 +28,7 @@ impl<'a> Labels<'a> {
     }
 
     /// The place of a label, if a line defines it.
-    pub(crate) fn place(&self, label: &[u8]) -> Option<u32>
+    pub fn place(&self, label: &[u8]) -> Option<u32>
         ensures { result ≡ place_at self.now label.now }
     {
         self.places.get(&label).copied()

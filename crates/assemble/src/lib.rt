@@ -22,6 +22,7 @@ mod round_trip;
 ghost use Rattle.asm_lex.specs.declared.asm_names.kinds.Section.{Section};
 ghost use Rattle.assemble.specs.Assembly.{Assembles, IsFirstFault, bytes_in, lines_back, values_of};
 ghost use Rattle.assemble.specs.Faults.{early_code};
+ghost use Rattle.assemble.specs.Labels.{place_at};
 ghost use Rattle.assemble.specs.declared.TheConstants.{SOURCE_LIMIT};
 ghost use Rattle.assemble.specs.Places.{size_of};
 ghost use Rattle.assemble.specs.Standing.{LineStands};
@@ -32,7 +33,7 @@ use asm_lex::next_line;
 pub use asm_line::{AsmCode, Line, NumberWidth, Section, Statement, halves, read_line};
 use emission::sections_of;
 pub use fault::AsmFault;
-use labels::Labels;
+pub use labels::Labels;
 pub use numbering::{LineNumbers, line_numbers};
 use placing::{labels_of, place_line};
 use position::Position;
@@ -93,6 +94,18 @@ pub fn assemble(alloc: Global, source: &[u8]) -> Result<Object, AsmFault>
     let labels = labels_of(alloc, source)?;
     let (text, static_data) = sections_of(alloc, source, &labels)?;
     Ok(Object::new(text, static_data))
+}
+
+/// The labels of a source, each with its place, or its first line with a fault that needs no label's place, as `assemble` reports it.
+/// `AsmCode::Memory` is answered only where a growth was refused, and says nothing of the source.
+pub fn source_labels<'a>(alloc: Global, source: &'a [u8]) -> Result<Labels<'a>, AsmFault>
+    ensures ok { IfOk result (λ labels. place_at labels ≡ values_of source.now) }
+    ensures err { IfErr result (λ fault. fault.code ≢ AsmCode.Memory → IsFirstFault source.now fault) }
+{
+    if source.len() > SOURCE_LIMIT {
+        return Err(too_long(alloc, source));
+    }
+    labels_of(alloc, source)
 }
 
 /// The fault of a source that passes its limit, which its first line does.

@@ -16,7 +16,7 @@ use Rattle.crash_test.specs.Origins.{AreNamesOf, origin_of}
 use Rattle.crash_test.specs.Programs.{IsProgramOf}
 use Rattle.crash_test.specs.Runs.{IsAtStart}
 use Rattle.program.specs.Sections.{Sections}
-use Rattle.report.specs.Addresses.{StandsIn, have_names}
+use Rattle.report.specs.Addresses.{StandsIn, are_of_executable, have_name}
 use Rattle.report.specs.Places.{KnownOrigin, origin_in, pc_text}
 use Rattle.report.specs.declared.place.Places.{Places}
 use Rattle.machine.specs.declared.recording.setup.Setup.{Setup}
@@ -54,7 +54,7 @@ told_place origins pc = pc_text pc (origins pc)
 
 -- what is known of a program's code by its places
 abbrev pub known_code : Places → KnownCode
-known_code places = record { named = have_names places; stands_for = StandsIn places; place = told_place (origin_in places) }
+known_code places = record { named = have_name places; is_placed = are_of_executable places; stands_for = StandsIn places; place = told_place (origin_in places) }
 
 -- the debugger of a machine, without points
 abbrev pub debugger_of : MachineView → DebuggerView
@@ -80,7 +80,7 @@ pub record HoldsSession (code : KnownCode) (machine : MachineView) (input input'
       (IsBrokenOff code (debugger_of machine) left input input' output output')
   pub told : ended ≡ result_map_both (λ _. 0) failure_of_session outcome
 
--- the places of a program's file: they say where its pcs are, and of an ELF file they have its functions and lines
+-- the places of a program's file: they say where its pcs are, and of an ELF file they have its functions and lines, and of a source its labels
 pub record ArePlacesOf (file : List ℕ) (places : Places) : Type 0 where
   pub origins : origin_in places ≡ origin_of file
   pub names : AreNamesOf file places

@@ -60,8 +60,12 @@ struct ProgramCode<'a> {
 impl Code for ProgramCode<'_> {
     ghost known = { λ code. known_code code.places };
 
-    fn is_named(&self) -> bool {
-        self.places.have_names()
+    fn is_named(&self, word: &[u8]) -> bool {
+        self.places.have_name(word)
+    }
+
+    fn is_placed(&self) -> bool {
+        self.places.are_of_executable()
     }
 
     fn address_of(&self, word: &[u8]) -> Option<u64> {

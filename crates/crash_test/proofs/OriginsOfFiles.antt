@@ -4,6 +4,7 @@ use Rattle.std.proofs.Math.Path.{fun_ext}
 use Rattle.assemble.specs.Assembly.{IsFirstFault, lines_back}
 use Rattle.assemble.specs.LineNumbers.{line_number, number_at}
 use Rattle.assemble.specs.declared.fault.AsmFault.{AsmFault}
+use Rattle.assemble.specs.declared.labels.Labels.{Labels}
 use Rattle.assemble.proofs.OneAnswer.{no_fault}
 use Rattle.elf_file.specs.FunctionSymbols.{FunctionSymbol}
 use Rattle.elf_file.specs.Functions.{functions_of}
@@ -29,9 +30,9 @@ executable_known file lines functions is same_lines same = fun_ext (λ pc.
     ∙ ap (λ (kind : FileKind). origin_by_kind kind file pc) (sym is))
 
 -- those of a source
-pub lines_known : (file numbers : List ℕ) → file_kind file ≡ kinds.Source
-    → ((pc : ℕ) → number_at numbers pc ≡ line_number (lines_back file) pc) → origin_in (Source numbers) ≡ origin_of file
-lines_known file numbers is same =
+pub lines_known : (file numbers : List ℕ) (labels : Labels) → file_kind file ≡ kinds.Source
+    → ((pc : ℕ) → number_at numbers pc ≡ line_number (lines_back file) pc) → origin_in (Source numbers labels) ≡ origin_of file
+lines_known file numbers labels is same =
     fun_ext (λ pc. ap by_line (same pc) ∙ ap (λ (kind : FileKind). origin_by_kind kind file pc) (sym is))
 
 -- a source that gives a program has no fault

@@ -1,5 +1,5 @@
 -- What the words behind a command's name say, and why they say nothing.
-use Rattle.std.proofs.Common.{◌≡◌, ◌≢◌, ◌≤◌, ◌<◌, ◌^◌, ◌&&◌, ℕ, Bool, true, false, List, [], ◌∷◌, codes, inl, inr, refl, sym, ◌∙◌, arith, eqb, eq-eqb}
+use Rattle.std.proofs.Common.{◌≡◌, ◌≢◌, ◌≤◌, ◌<◌, ◌^◌, ◌&&◌, ℕ, Bool, true, false, List, [], ◌∷◌, codes, inl, inr, ap, refl, sym, ◌∙◌, arith, eqb, eq-eqb}
 use Rattle.std.proofs.lemmas.Bool.{true≢false}
 use Rattle.debugger.specs.Code.{KnownCode}
 use Rattle.debugger.specs.declared.fault.DebugFault.{DebugFault}
@@ -157,16 +157,16 @@ place_said code parts word number spelled address = record { word = word; spelle
 pub no_place_word : (code : KnownCode) (parts : List (List ℕ)) (number : Number) → ((word : List ℕ) → parts ≢ word ∷ []) → ¬ (IsOnePlace code parts number)
 no_place_word code parts number none one = none one.word one.spelled
 
--- a name where the code has names, and what it stands for
+-- a word that the code takes for a name, and what it stands for
 pub place_named : (code : KnownCode) (parts : List (List ℕ)) (word : List ℕ) (number : Number) → parts ≡ word ∷ [] → ((n : Number) → ¬ (IsWritten word n))
-    → code.named ≡ true → Names code word number → IsOnePlace code parts number
+    → code.named word ≡ true → Names code word number → IsOnePlace code parts number
 place_named code parts word number spelled none named stands = record { word = word; spelled = spelled; place = inr ((none, named), stands) }
 
 pub no_name_there : (code : KnownCode) (parts : List (List ℕ)) (word : List ℕ) (number : Number) → parts ≡ word ∷ [] → ((n : Number) → ¬ (IsWritten word n))
-    → code.named ≡ false → ¬ (IsOnePlace code parts number)
+    → code.named word ≡ false → ¬ (IsOnePlace code parts number)
 no_name_there code parts word number spelled none unnamed one = elim one.place [
   | inl written ↦ none number (address_alike word one.word number (same_word parts word one.word spelled one.spelled) written)
-  | inr name ↦ true_and_false code.named name.0.1 unnamed
+  | inr name ↦ true_and_false (code.named word) (ap code.named (sym (same_word parts word one.word spelled one.spelled)) ∙ name.0.1) unnamed
 ]
 
 pub name_fault : (code : KnownCode) (parts : List (List ℕ)) (word : List ℕ) (fault : DebugFault) → parts ≡ word ∷ []

@@ -28,9 +28,9 @@ fault_text fault = line_of (codes "fault " ++ code fault)
 abbrev pub hart_place : ℕ → List ℕ → List ℕ
 hart_place hart place = codes "h" ++ (decimal hart ++ place)
 
--- a stop tells what is known of its pc where the code has names
+-- a stop tells what is known of its pc where stops are told with their place
 abbrev pub stop_place : KnownCode → ℕ → List ℕ
-stop_place known pc = if known.named then known.place pc else plain_place pc
+stop_place known pc = if known.is_placed then known.place pc else plain_place pc
 
 -- `break` and where it is, `watch hN line=0xH` and `end`
 abbrev pub stop_text : KnownCode → Cause → List ℕ

@@ -2,9 +2,11 @@
 use Rattle.std.specs.Prelude.{ℕ, ◌++◌, Bool, false, List, codes}
 use Rattle.hart.specs.HartLines.{hexadecimal}
 
--- whether words other than numbers stand for addresses, which address a word then stands for, and how a pc is told, behind a blank
+-- whether a word that is no number is taken for the name of an address, whether stops are told with their place, which address a word then stands
+-- for, and how a pc is told, behind a blank
 pub record KnownCode : Type 1 where
-  pub named : Bool
+  pub named : List ℕ → Bool
+  pub is_placed : Bool
   pub stands_for : List ℕ → ℕ → Type 0
   pub place : ℕ → List ℕ
 
@@ -14,4 +16,4 @@ plain_place pc = codes " pc=0x" ++ hexadecimal pc
 
 -- nothing is known
 abbrev pub unknown_code : KnownCode
-unknown_code = record { named = false; stands_for = λ word address. ⊥; place = plain_place }
+unknown_code = record { named = λ word. false; is_placed = false; stands_for = λ word address. ⊥; place = plain_place }

@@ -52,9 +52,9 @@ abbrev pub Names : KnownCode → List ℕ → Number → Type 0
 Names code word (Small address) = code.stands_for word address × (can_break address ≡ true)
 Names code word Large = NamesNone code word
 
--- a word is the number of an address, or else a name, where the code has names
+-- a word is the number of an address, or else a name, where the code takes it for one
 abbrev pub IsName : KnownCode → List ℕ → Type 0
-IsName code word = ((number : Number) → ¬ (IsWritten word number)) × (code.named ≡ true)
+IsName code word = ((number : Number) → ¬ (IsWritten word number)) × (code.named word ≡ true)
 
 abbrev pub MeansPlace : KnownCode → List ℕ → Number → Type 0
 MeansPlace code word number = IsWritten word number ⊎ (IsName code word × Names code word number)
@@ -166,8 +166,8 @@ OnPlace code parts fault = ⊥
 
 -- why a word that is no number is no name of an instruction
 abbrev pub OnName : KnownCode → List ℕ → DebugFault → Type 0
-OnName code word faults.Command = code.named ≡ false
-OnName code word faults.Address = (code.named ≡ true) × NamesNone code word
+OnName code word faults.Command = code.named word ≡ false
+OnName code word faults.Address = (code.named word ≡ true) × NamesNone code word
 OnName code word fault = ⊥
 
 abbrev pub OnHartFault : List (List ℕ) → StepFault → Type 0

@@ -10,9 +10,13 @@ pub trait Code {
     /// What that is.
     ghost known: { Self → KnownCode };
 
-    /// Whether words other than numbers stand for addresses. Then stops are told with their place, too.
-    fn is_named(&self) -> bool
-        ensures { result ≡ (known self.now).named };
+    /// Whether a word that is no number is taken for the name of an address.
+    fn is_named(&self, word: &[u8]) -> bool
+        ensures { result ≡ (known self.now).named word.now };
+
+    /// Whether stops are told with their place.
+    fn is_placed(&self) -> bool
+        ensures { result ≡ (known self.now).is_placed };
 
     /// The address of 64 bits that a word stands for, where there is one.
     fn address_of(&self, word: &[u8]) -> Option<u64>
@@ -31,7 +35,11 @@ pub struct UnknownCode;
 impl Code for UnknownCode {
     ghost known = { λ _. unknown_code };
 
-    fn is_named(&self) -> bool {
+    fn is_named(&self, _word: &[u8]) -> bool {
+        false
+    }
+
+    fn is_placed(&self) -> bool {
         false
     }
 

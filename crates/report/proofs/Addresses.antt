@@ -4,11 +4,13 @@ use Rattle.std.proofs.lemmas.Bool.{cases_lt}
 use Rattle.std.proofs.lemmas.List.{take_all}
 use Rattle.std.proofs.lemmas.Option.{some_pair_parts}
 use Rattle.std.specs.Str.Parse.{IsNumeral, digits_value}
+use Rattle.assemble.specs.Labels.{place_at}
+use Rattle.assemble.specs.declared.labels.Labels.{Labels}
 use Rattle.elf_file.specs.FunctionSymbols.{FunctionSymbol}
 use Rattle.elf_file.specs.Functions.{address_of}
 use Rattle.elf_file.specs.Lines.{HasLine, HasNoPc, IsFirstPc, file_line, line_at}
 use Rattle.elf_file.specs.SourceRows.{KnownRow}
-use Rattle.report.specs.Addresses.{HasNoAddress, IsAtLine, IsAtOffset, IsBehind, IsLineNumber, IsOfFunction, SaysNoOffset, SaysOffset, StandsFor, parted, two_parts}
+use Rattle.report.specs.Addresses.{HasNoAddress, IsAtLine, IsAtOffset, IsBehind, IsLabelled, IsLineNumber, IsOfFunction, SaysNoOffset, SaysOffset, StandsFor, parted, two_parts}
 use Rattle.text.specs.Numbers.{IsOf, Writes}
 use Rattle.text.specs.declared.numbers.Number.{Number}
 use Rattle.text.specs.declared.numbers.Number.TheVariants.{Small, Large}
@@ -22,6 +24,14 @@ same_back parts a b x y p q = (some_pair_parts a b x y (sym p ∙ q)).1
 
 not_parted : (parts : Option (List ℕ × List ℕ)) (front back : List ℕ) → parts ≡ two_parts front back → parts ≡ None → ⊥
 not_parted parts front back p q = absurd cc
+
+no_address : (found : Option ℕ) (address : ℕ) → None ≡ found → found ≡ Some address → ⊥
+no_address found address p q = absurd cc
+
+-- ---- labels
+
+pub unplaced : (labels : Labels) (word : List ℕ) → None ≡ place_at labels word → HasNoAddress (IsLabelled labels word)
+unplaced labels word none = λ address small stands. no_address (place_at labels word) address none stands
 
 -- ---- lines
 
@@ -95,9 +105,6 @@ by_offset functions word name offset None says none =
           none address small (subst (λ (n : ℕ). IsBehind functions name n address) (same_offset word at.name name at.offset offset at.says says) named)
       | inr alone ↦ alone.0 name offset says
     ]
-
-no_address : (found : Option ℕ) (address : ℕ) → None ≡ found → found ≡ Some address → ⊥
-no_address found address p q = absurd cc
 
 pub by_name : (functions : List FunctionSymbol) (word : List ℕ) (found : Option ℕ) → SaysNoOffset word → found ≡ address_of functions word
     → MatchOption found (HasNoAddress (IsOfFunction functions word)) (IsOfFunction functions word)

@@ -1,12 +1,14 @@
--- The addresses that words stand for by the names of an executable: FILE:LINE, NAME, and NAME+0xOFF.
-use Rattle.std.specs.Prelude.{◌≡◌, ◌⊎◌, ◌+◌, ◌^◌, ◌<◌, ◌==◌, ◌++◌, ℕ, Bool, true, false, List, [], ◌∷◌, Option, Some, None, codes, if◌then◌else◌}
+-- The addresses that words stand for by the labels of a source, or the names of an executable: FILE:LINE, NAME, and NAME+0xOFF.
+use Rattle.std.specs.Prelude.{◌≡◌, ◌⊎◌, ◌+◌, ◌^◌, ◌<◌, ◌==◌, ◌++◌, ℕ, Bool, true, false, List, [], ◌∷◌, Option, Some, None, codes, if◌then◌else◌, is_some}
 use Rattle.std.specs.Str.Parse.{IsNumeral, digits_value}
+use Rattle.assemble.specs.Labels.{place_at}
+use Rattle.assemble.specs.declared.labels.Labels.{Labels}
 use Rattle.elf_file.specs.FunctionSymbols.{FunctionSymbol}
 use Rattle.elf_file.specs.Functions.{address_of}
 use Rattle.elf_file.specs.Lines.{IsFirstPc}
 use Rattle.elf_file.specs.SourceRows.{KnownRow}
 use Rattle.report.specs.declared.place.Places.{Places}
-use Rattle.report.specs.declared.place.Places.TheVariants.{Executable}
+use Rattle.report.specs.declared.place.Places.TheVariants.{Executable, Source}
 
 -- the two parts of a word
 abbrev pub two_parts : List ℕ → List ℕ → Option (List ℕ × List ℕ)
@@ -72,11 +74,21 @@ StandsFor rows functions word address = IsAtLine rows word address ⊎ ((parted 
 abbrev pub HasNoAddress : (ℕ → Type 0) → Type 0
 HasNoAddress P = (address : ℕ) → address < 2 ^ 64 → ¬ (P address)
 
--- an executable has names, and no other program
-abbrev pub have_names : Places → Bool
-have_names (Executable lines functions) = true
-have_names places = false
+-- the word is a label, which stands for its place
+abbrev pub IsLabelled : Labels → List ℕ → ℕ → Type 0
+IsLabelled labels word address = place_at labels word ≡ Some address
+
+-- a word is taken for a name: of a source a label, of an executable any word, and of another program none
+abbrev pub have_name : Places → List ℕ → Bool
+have_name (Source numbers labels) word = is_some (place_at labels word)
+have_name (Executable lines functions) word = true
+have_name places word = false
+
+abbrev pub are_of_executable : Places → Bool
+are_of_executable (Executable lines functions) = true
+are_of_executable places = false
 
 abbrev pub StandsIn : Places → List ℕ → ℕ → Type 0
+StandsIn (Source numbers labels) word address = IsLabelled labels word address
 StandsIn (Executable lines functions) word address = StandsFor lines.rows functions word address
 StandsIn places word address = ⊥

@@ -71,7 +71,7 @@ by_words (Some words) = told_words words.items
 -- numbers in place of a pc
 abbrev pub origin_in : Places → ℕ → KnownOrigin
 origin_in Unknown pc = nowhere
-origin_in (Source numbers) pc = by_line (number_at numbers pc)
+origin_in (Source numbers labels) pc = by_line (number_at numbers pc)
 origin_in (Executable lines functions) pc = executable (in_executable lines.rows functions pc)
 origin_in (Traced places) number = by_words (slice_get places.items number)
 

@@ -1,37 +1,58 @@
-//! The addresses that words stand for by the names of an executable.
+//! The addresses that words stand for by the labels of a source, or the names of an executable.
 
 ghost use Rattle.elf_file.specs.Lines.{IsFirstPc};
-ghost use Rattle.report.specs.Addresses.{HasNoAddress, IsBehind, IsLineNumber, IsOfFunction, SaysNoOffset, SaysOffset, StandsFor, StandsIn, have_names, parted};
+ghost use Rattle.report.specs.Addresses.{HasNoAddress, IsBehind, IsLabelled, IsLineNumber, IsOfFunction, SaysNoOffset, SaysOffset, StandsFor, StandsIn, are_of_executable, have_name, parted};
 ghost use Rattle.std.specs.Prelude.{◌≡◌, ◌^◌, ◌<◌, ℕ, MatchOption, option_map};
 ghost use Rattle.text.specs.Numbers.{IsOf};
 
 use crate::place::Places;
+use assemble::Labels;
 use elf_file::{Functions, LineTable};
 use text::{Number, decimal, number_in};
 
 impl Places<'_> {
-    /// Whether words stand for addresses: an executable has names of functions, and lines of files.
-    pub fn have_names(&self) -> bool
-        ensures { result ≡ have_names self.now }
+    /// Whether a word is taken for the name of an address: of a source a label, and of an executable any word.
+    pub fn have_name(&self, word: &[u8]) -> bool
+        ensures { result ≡ have_name self.now word.now }
     {
         match self {
+            Places::Source { labels, .. } => labels.place(word).is_some(),
             Places::Executable { .. } => true,
-            Places::Source(_) | Places::Traced(_) | Places::Unknown => false,
+            Places::Traced(_) | Places::Unknown => false,
         }
     }
 
-    /// The address that a word stands for in an executable, where there is one of 64 bits.
+    /// Whether they have the names of an executable's functions, and its files' lines.
+    pub fn are_of_executable(&self) -> bool
+        ensures { result ≡ are_of_executable self.now }
+    {
+        matches!(self, Places::Executable { .. })
+    }
+
+    /// The address that a word stands for, where there is one of 64 bits. A label of a source stands for its place.
     ///
-    /// `FILE:LINE` stands for the least address of text that comes from that line of a file of that name, `NAME` for the
+    /// In an executable `FILE:LINE` stands for the least address of text that comes from that line of a file of that name, `NAME` for the
     /// first byte of the first function of that name in the table, and `NAME+0xOFF` for the byte so many behind it. A word
     /// with a colon is a line, parted by its last colon.
     pub fn address_of(&self, word: &[u8]) -> Option<u64>
         ensures { MatchOption result (HasNoAddress (StandsIn self.now word.now)) (StandsIn self.now word.now) }
     {
         match self {
+            Places::Source { labels, .. } => labelled_address(labels, word),
             Places::Executable { lines, functions } => named_address(lines, functions, word),
-            Places::Source(_) | Places::Traced(_) | Places::Unknown => None,
+            Places::Traced(_) | Places::Unknown => None,
         }
+    }
+}
+
+/// The place of a label.
+#[tactic(auto, using(crate::proofs::Addresses::unplaced))]
+fn labelled_address(labels: &Labels<'_>, word: &[u8]) -> Option<u64>
+    ensures { MatchOption result (HasNoAddress (IsLabelled labels.now word.now)) (IsLabelled labels.now word.now) }
+{
+    match labels.place(word) {
+        Some(place) => Some(u64::from(place)),
+        None => None,
     }
 }
 

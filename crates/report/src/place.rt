@@ -11,7 +11,7 @@ use crate::events::{PlacedEvent, hart_of};
 use crate::form::Form;
 use crate::origin::{ExecutablePlace, FileLine, FunctionBehind, FunctionPlace, LineBehind, Origin};
 use crate::printed_words::PrintedWords;
-use assemble::LineNumbers;
+use assemble::{Labels, LineNumbers};
 use elf_file::{Functions, LineTable};
 use machine::TracedEvent;
 use std::fmt;
@@ -19,8 +19,11 @@ use std::fmt;
 /// What tells where the instructions of a program come from.
 #[derive(Drop)]
 pub enum Places<'a> {
-    /// The line numbers of its source.
-    Source(LineNumbers),
+    /// The line numbers and the labels of its source.
+    Source {
+        numbers: LineNumbers,
+        labels: Labels<'a>,
+    },
     /// The line table and the functions of an executable.
     Executable {
         lines: LineTable<'a>,
@@ -38,7 +41,7 @@ impl Places<'_> {
         ensures { known_origin result ≡ origin_in self.now pc }
     {
         match self {
-            Places::Source(numbers) => match numbers.at(pc) {
+            Places::Source { numbers, .. } => match numbers.at(pc) {
                 Some(line) => Origin::Line(line),
                 None => Origin::Unknown,
             },
@@ -61,7 +64,7 @@ impl Places<'_> {
         ensures from_one { IfSome result (λ line. 1 ≤ line) }
     {
         match self {
-            Places::Source(numbers) => numbers.at(pc),
+            Places::Source { numbers, .. } => numbers.at(pc),
             Places::Executable { .. } | Places::Traced(_) | Places::Unknown => None,
         }
     }

@@ -7,6 +7,7 @@ mod elf_files;
 mod examples;
 mod files;
 mod instructions;
+mod labels;
 mod line_tables;
 mod lines;
 mod names;

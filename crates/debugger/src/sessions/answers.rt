@@ -156,11 +156,11 @@ fn break_text<C: Code>(alloc: Global, code: &C, hart: u32, pc: u64) -> Result<St
     format!(in alloc; "break h{hart}{place}\n")
 }
 
-/// The pc of a stop, with what is known of it where the code has names.
+/// The pc of a stop, with what is known of it where stops are told so.
 fn stop_place<C: Code>(alloc: Global, code: &C, pc: u64) -> Result<String, AllocError>
     ensures { IfOk result (λ text. string_bytes text ≡ stop_place (C.known code.now) pc) }
 {
-    if code.is_named() {
+    if code.is_placed() {
         code.place_of(alloc, pc)
     } else {
         plain_place(alloc, pc)

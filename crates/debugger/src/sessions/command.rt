@@ -289,7 +289,7 @@ fn one_address(line: &[u8]) -> Result<u64, DebugFault>
     }
 }
 
-/// The address of an instruction that a line's only word means: a number, or where the code has names, a name.
+/// The address of an instruction that a line's only word means: a number, or a word that the code takes for a name.
 #[tactic(auto, using(crate::proofs::Commands::place_said, crate::proofs::Commands::no_place_word, crate::proofs::Commands::place_named, crate::proofs::Commands::name_fault))]
 fn one_place<C: Code>(code: &C, line: &[u8]) -> Result<u64, DebugFault>
     ensures ok { IfOk result (λ address. IsOnePlace (C.known code.now) (words line.now) (Number.Small address)) }
@@ -311,10 +311,10 @@ fn one_place<C: Code>(code: &C, line: &[u8]) -> Result<u64, DebugFault>
 /// The address of an instruction that a name stands for.
 fn named_place<C: Code>(code: &C, word: &[u8]) -> Result<u64, DebugFault>
     ensures named { IfOk result (λ address. Names (C.known code.now) word.now (Number.Small address)) }
-    ensures ok { OnOk result ((C.known code.now).named ≡ true) }
+    ensures ok { OnOk result ((C.known code.now).named word.now ≡ true) }
     ensures err { IfErr result (OnName (C.known code.now) word.now) }
 {
-    if !code.is_named() {
+    if !code.is_named(word) {
         return Err(DebugFault::Command);
     }
     match code.address_of(word) {

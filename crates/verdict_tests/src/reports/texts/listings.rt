@@ -1,6 +1,6 @@
 //! The listing of a source whose lines give no word, one, or two, and that of its words alone.
 
-use assemble::{assemble, line_numbers};
+use assemble::{assemble, line_numbers, source_labels};
 use report::{Places, listing_text};
 use std::test::Fail;
 
@@ -25,7 +25,10 @@ const WORDS: &[u8] = b"0x10000 000122b7 lui x5, 18\n\
 fn lists(rt: &impl AllocGlobal, is_numbered: bool, expected: &[u8]) -> Result<bool, Fail> {
     let object = assemble(rt.alloc(), SOURCE)?;
     let places = if is_numbered {
-        Places::Source(line_numbers(rt.alloc(), SOURCE)?)
+        Places::Source {
+            numbers: line_numbers(rt.alloc(), SOURCE)?,
+            labels: source_labels(rt.alloc(), SOURCE)?,
+        }
     } else {
         Places::Unknown
     };

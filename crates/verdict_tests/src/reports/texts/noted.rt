@@ -1,6 +1,6 @@
 //! The notes on a run of two harts.
 
-use assemble::{assemble, line_numbers};
+use assemble::{assemble, line_numbers, source_labels};
 use line_memory::Medium;
 use machine::{Run, Schedule, Setup};
 use program::load;
@@ -34,7 +34,10 @@ fn run_of(alloc: Global) -> Option<Run> {
 
 fn notes_of(alloc: Global) -> Option<String> {
     let object = assemble(alloc, SOURCE).ok()?;
-    let places = Places::Source(line_numbers(alloc, SOURCE).ok()?);
+    let places = Places::Source {
+        numbers: line_numbers(alloc, SOURCE).ok()?,
+        labels: source_labels(alloc, SOURCE).ok()?,
+    };
     let run = run_of(alloc)?;
     notes_text(alloc, object.text_bytes(), &run, &places).ok()
 }

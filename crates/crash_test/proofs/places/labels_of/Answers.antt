@@ -1,5 +1,5 @@
 use Rattle.crash_test.proofs.OriginsOfFiles.{no_other_fault}
-use Rattle.crash_test.proofs.places.places_of_source.Goals as goal
+use Rattle.crash_test.proofs.places.labels_of.Goals as goal
 
 pub unreachable-requires : goal.unreachable-requires
 unreachable-requires c =
