@@ -8,7 +8,7 @@ use Rattle.report.specs.declared.slips.slip.Slip.{Slip}
 use Rattle.assemble.specs.declared.asm_line.fault.AsmCode.{AsmCode}
 use Rattle.assemble.specs.declared.asm_line.fault.AsmCode.TheVariants.{Mnemonic}
 use Rattle.command_line.specs.Items.{IsFirstBad, IsScheduleText, word_hint}
-use Rattle.command_line.specs.Shown.{shown}
+use Rattle.report.specs.PrintedWords.{printed_words}
 use Rattle.command_line.specs.SourceLines.{front_of_line, numbered_line}
 use Rattle.command_line.specs.declared.details.Detail.{Detail}
 use Rattle.command_line.specs.declared.failure.Refusal.{Refusal}
@@ -25,12 +25,12 @@ pub record HasParts (column : Option ℕ) (text hint : List ℕ) (detail : Detai
 
 -- a part of a line, or the front of the line where no part alone is at fault
 abbrev pub part_text : List ℕ → Option Part → List ℕ
-part_text line None = shown (front_of_line line)
-part_text line (Some part) = shown part.text.now
+part_text line None = printed_words (front_of_line line)
+part_text line (Some part) = printed_words part.text.now
 
 abbrev pub line_text : Option (List ℕ) → List ℕ
 line_text None = []
-line_text (Some line) = shown (front_of_line line)
+line_text (Some line) = printed_words (front_of_line line)
 
 -- a line is refused for a name of which nothing is known
 abbrev pub is_unnamed : AsmCode → List ℕ → Bool
@@ -39,7 +39,7 @@ is_unnamed code hint = false
 
 -- ` (did you mean NAME?)`, of a mnemonic that is near a name, or nothing
 abbrev pub near_text : List ℕ → List ℕ
-near_text near = codes " (did you mean " ++ (shown near ++ codes "?)")
+near_text near = codes " (did you mean " ++ (printed_words near ++ codes "?)")
 
 pub record TellsNear (name text : List ℕ) : Type 0 where
   pub near : List ℕ
@@ -77,7 +77,7 @@ plan_hint file =
 
 -- `item N, WORD`
 abbrev pub item_text : ℕ → List ℕ → List ℕ
-item_text number word = codes "item " ++ (decimal number ++ (codes ", " ++ shown (front_of_line word)))
+item_text number word = codes "item " ++ (decimal number ++ (codes ", " ++ printed_words (front_of_line word)))
 
 -- the first item of a schedule's text that is none, or its steps are too many
 pub record IsBadItemDetail (text : List ℕ) (detail : Detail) : Type 0 where

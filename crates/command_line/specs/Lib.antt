@@ -45,7 +45,6 @@ pub mod Reports
 pub mod Requests
 pub mod Running
 pub mod Showing
-pub mod Shown
 pub mod SourceLines
 pub mod Steps
 pub mod Telling

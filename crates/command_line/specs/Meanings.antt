@@ -9,13 +9,13 @@ use Rattle.command_line.specs.FileNames.{Names}
 use Rattle.command_line.specs.Kinds.{IsKindTold}
 use Rattle.command_line.specs.LostFiles.{FindsLost}
 use Rattle.command_line.specs.Reports.{line_end}
-use Rattle.command_line.specs.Shown.{shown}
+use Rattle.report.specs.PrintedWords.{printed_words}
 use Rattle.command_line.specs.Steps.{First, Reads, ReadsFile, Step, Still}
 use Rattle.command_line.specs.declared.details.Detail.{Detail}
 use Rattle.command_line.specs.declared.failure.Failure.{Failure}
 use Rattle.command_line.specs.declared.failure.Failure.TheVariants.{File, Memory, Refused}
 use Rattle.command_line.specs.declared.failure.Refusal.{Refusal}
-use Rattle.command_line.specs.declared.failure.Refusal.TheVariants.{Assembly, Object, Plan, ScheduleText, Trace, Medium, Volume, Step as Stopped, Foreign, Moment, Image, Operation, Marks, RecoverySource, RecoveryObject, Elf, RecoveryElf}
+use Rattle.command_line.specs.declared.failure.Refusal.TheVariants.{Assembly, Object, Plan, ScheduleText, Trace, Medium, Volume, Step as Stopped, Foreign, Moment, Image, Operation, Marks, Reply, NoReply, RecoverySource, RecoveryObject, Elf, RecoveryElf}
 
 -- the one, where there is one, and else the other
 abbrev pub first_name : Option (List ℕ) → Option (List ℕ) → Option (List ℕ)
@@ -36,6 +36,8 @@ refused_file names (Stopped fault) = names.schedule
 refused_file names Foreign = names.program
 refused_file names Moment = None
 refused_file names Image = None
+refused_file names Reply = None
+refused_file names NoReply = None
 refused_file names (Operation fault) = first_name names.program names.trace
 refused_file names (Marks fault) = first_name names.program names.trace
 refused_file names (RecoverySource fault) = names.recovery
@@ -58,7 +60,7 @@ behind_name (Some line) (Some column) = codes ":" ++ (decimal line ++ (codes ":"
 
 abbrev pub place_text : Option (List ℕ) → Option ℕ → Option ℕ → List ℕ
 place_text None line column = []
-place_text (Some name) line column = shown name ++ behind_name line column
+place_text (Some name) line column = printed_words name ++ behind_name line column
 
 -- `: TEXT`, and ` (TEXT)`, or nothing
 abbrev pub behind_colon : List ℕ → List ℕ
@@ -111,7 +113,7 @@ files_read names = names.plan ∷ names.program ∷ names.schedule ∷ names.rec
 
 abbrev pub lost_text : Option (List ℕ) → List ℕ
 lost_text None = []
-lost_text (Some name) = shown name ++ codes ": can't be read\n"
+lost_text (Some name) = printed_words name ++ codes ": can't be read\n"
 
 -- which of them can't be read
 pub record SaysLost {F : Type 0} (reads : Reads F) (names : Names) (old : F) (outcome : Result (List ℕ) Failure) (new : F) : Type 0 where

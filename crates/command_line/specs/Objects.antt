@@ -8,7 +8,7 @@ use Rattle.command_line.specs.CutVerdicts.{number_or_null}
 use Rattle.command_line.specs.Failures.{refusal_code}
 use Rattle.command_line.specs.Meanings.{refused_line}
 use Rattle.command_line.specs.Reports.{line_end}
-use Rattle.command_line.specs.Shown.{shown_json}
+use Rattle.report.specs.PrintedWords.{json_words}
 use Rattle.command_line.specs.SourceLines.{numbered_line}
 use Rattle.command_line.specs.declared.failure.Failure.{Failure}
 use Rattle.command_line.specs.declared.failure.Failure.TheVariants.{Memory}
@@ -32,7 +32,7 @@ IsToken refusal file token = token ≡ None
 
 abbrev pub text_or_null : Option (List ℕ) → List ℕ
 text_or_null None = codes "null"
-text_or_null (Some text) = codes "\"" ++ (shown_json text ++ codes "\"")
+text_or_null (Some text) = codes "\"" ++ (json_words text ++ codes "\"")
 
 -- `{"kind":"refused","code":"CODE","file":"FILE","line":N,"token":"TEXT"}`, with `null` where no file, line or token is at fault
 abbrev pub refusal_json : Option (List ℕ) → Refusal → Option (List ℕ) → List ℕ

@@ -2,16 +2,15 @@
 
 ghost use Rattle.command_line.specs.Details.{HasParts, IsDetail, IsItemDetail, IsMeant, IsNearText, IsSlipOf, IsSourceDetail, is_unnamed, item_text, line_text, mark_hint, near_text, part_text, plan_hint, size_text};
 ghost use Rattle.command_line.specs.Items.{word_hint};
-ghost use Rattle.command_line.specs.Shown.{shown};
+ghost use Rattle.report.specs.PrintedWords.{printed_words};
 ghost use Rattle.command_line.specs.SourceLines.{numbered_line};
 ghost use Rattle.std.specs.Prelude.{◌≡◌, [], None, IfOk, codes, option_map, string_bytes};
 
 use crate::failure::Refusal;
 use crate::items::{BadItem, bad_item, word_hint};
-use crate::shown::{Form, Shown};
 use crate::source_lines::{front_of_line, numbered_line};
 use assemble::{AsmCode, AsmFault};
-use report::{Part, Slip, nearest_mnemonic, slip_in};
+use report::{Form, Part, PrintedWords, Slip, nearest_mnemonic, slip_in};
 use routine_judge::MarkFault;
 use std::alloc::{AllocError, Global};
 
@@ -117,9 +116,9 @@ fn near_text(alloc: Global, name: &[u8]) -> Result<String, AllocError>
 fn told_near(alloc: Global, near: &[u8]) -> Result<String, AllocError>
     ensures { IfOk result (λ text. string_bytes text ≡ near_text near.now) }
 {
-    let near = Shown {
-        bytes: near,
-        form: Form::Line,
+    let near = PrintedWords {
+        words: near,
+        form: Form::Text,
     };
     format!(in alloc; " (did you mean {near}?)")
 }
@@ -200,9 +199,9 @@ fn item_detail(alloc: Global, item: BadItem<'_>) -> Result<Detail, AllocError>
     ensures { IfOk result (HasParts None (item_text item.entry.number item.entry.word.now) (word_hint item.entry.word.now)) }
 {
     let number = item.number;
-    let word = Shown {
-        bytes: front_of_line(item.word),
-        form: Form::Line,
+    let word = PrintedWords {
+        words: front_of_line(item.word),
+        form: Form::Text,
     };
     Ok(Detail {
         column: None,
@@ -233,11 +232,11 @@ fn size_detail(alloc: Global, bytes: usize) -> Result<Detail, AllocError>
 }
 
 fn shown_text(alloc: Global, bytes: &[u8]) -> Result<String, AllocError>
-    ensures { IfOk result (λ text. string_bytes text ≡ shown bytes.now) }
+    ensures { IfOk result (λ text. string_bytes text ≡ printed_words bytes.now) }
 {
-    let shown = Shown {
-        bytes,
-        form: Form::Line,
+    let shown = PrintedWords {
+        words: bytes,
+        form: Form::Text,
     };
     format!(in alloc; "{shown}")
 }

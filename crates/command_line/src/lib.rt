@@ -48,7 +48,6 @@ mod reporting;
 mod requesting;
 mod run;
 mod show;
-mod shown;
 mod sizes;
 mod source_lines;
 mod streams;

@@ -12,8 +12,8 @@ use crate::files::Files;
 use crate::kinds::kind_told;
 use crate::lost_files::find_lost;
 use crate::reading::read_file;
-use crate::shown::{Form, Shown};
 use arguments::meaning_of;
+use report::{Form, PrintedWords};
 use std::alloc::{AllocError, Global};
 
 /// What is told of a failure of a command that reads files of these names: a line, or nothing where its first line says all that is known.
@@ -105,9 +105,9 @@ fn place_text(
     let Some(name) = name else {
         return Ok(String::new(alloc));
     };
-    let name = Shown {
-        bytes: name.as_bytes(),
-        form: Form::Line,
+    let name = PrintedWords {
+        words: name.as_bytes(),
+        form: Form::Text,
     };
     match (line, column) {
         (Some(line), Some(column)) => format!(in alloc; "{name}:{line}:{column}: "),
@@ -163,9 +163,9 @@ fn lost_text<F: Files>(
     } = *names;
     match find_lost(&[plan, program, schedule, recovery, medium, trace], files) {
         Some(name) => {
-            let name = Shown {
-                bytes: name.as_bytes(),
-                form: Form::Line,
+            let name = PrintedWords {
+                words: name.as_bytes(),
+                form: Form::Text,
             };
             Ok(format!(in alloc; "{name}: can't be read\n")?)
         }
@@ -185,7 +185,7 @@ pub(crate) fn refused_file<'a>(names: &FileNames<'a>, refusal: &Refusal) -> Opti
         Refusal::Medium | Refusal::Volume(_) => names.medium,
         Refusal::Foreign => names.program,
         Refusal::Operation(_) | Refusal::Marks(_) => first_name(names.program, names.trace),
-        Refusal::Moment | Refusal::Image => None,
+        Refusal::Moment | Refusal::Image | Refusal::Reply | Refusal::NoReply => None,
         Refusal::RecoverySource(_) | Refusal::RecoveryObject(_) | Refusal::RecoveryElf(_) =>
             names.recovery,
     }

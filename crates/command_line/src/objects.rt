@@ -13,10 +13,9 @@ use crate::file_names::FileNames;
 use crate::files::Files;
 use crate::meanings::refused_file;
 use crate::reading::read_file;
-use crate::shown::{Form, Shown};
 use crate::source_lines::numbered_line;
 use assemble::AsmFault;
-use report::slip_in;
+use report::{Form, PrintedWords, slip_in};
 use std::alloc::{AllocError, Global};
 
 /// `{"kind":"refused","code":"CODE","file":"FILE","line":N,"token":"TEXT"}`, with `null` where no file, line or token is at fault. The file
@@ -119,8 +118,8 @@ fn text_or_null(alloc: Global, text: Option<&[u8]>) -> Result<String, AllocError
 {
     match text {
         Some(bytes) => {
-            let shown = Shown {
-                bytes,
+            let shown = PrintedWords {
+                words: bytes,
                 form: Form::Json,
             };
             format!(in alloc; "\"{shown}\"")

@@ -28,6 +28,7 @@ pub use answer::{
 pub use causes::unfinished_text;
 pub use disassembly::listing_text;
 pub use events::{PlacedEvent, hart_of, trace_text};
+pub use form::Form;
 pub use json::trace_json;
 pub use laws::{one_address, printed_is_a_trace_file};
 pub use losses::{unpersisted_json, unpersisted_text, why_json, why_text};
@@ -36,6 +37,7 @@ pub use notes::notes_text;
 pub use origin::{ExecutablePlace, FileLine, FunctionPlace, Origin};
 pub use picture::{ImageLine, image_stores, picture_at, picture_text};
 pub use place::{CodePlace, Place, Places};
+pub use printed_words::PrintedWords;
 pub use redundant::{waste_json, waste_text};
 pub use slips::{Part, Slip, nearest_mnemonic, slip_in};
 pub use told::ToldEvents;

@@ -43,6 +43,7 @@ pub fn notes_text(
     ensures { IfOk result (λ notes. AreNotes text.now (origin_in places.now) run.now.traced (string_bytes notes)) }
 {
     let words = words_of(alloc, text)?;
+    // That these are the run's events is what the answer is proved by.
     let _events = run.trace().events();
     let index = TraceIndex::new(alloc, run.start(), run.trace())?;
     tell_notes(alloc, &words, &index, run.traced(), places)

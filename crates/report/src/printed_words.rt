@@ -1,4 +1,4 @@
-//! Place words of a trace file as they are printed.
+//! Place words of a trace file, names of files and bytes of a file, as they are printed.
 
 ghost use Rattle.report.specs.PrintedWords.{is_shown};
 ghost use Rattle.std.specs.Prelude.{◌≡◌};
@@ -6,12 +6,14 @@ ghost use Rattle.std.specs.Prelude.{◌≡◌};
 use crate::form::Form;
 use std::fmt;
 
-/// Place words and the blanks around them in one of the forms: their bytes, those outside 0x20 to 0x7e as `\xhh`. In a string of
+/// Place words and the blanks around them, or other bytes, in one of the forms: those bytes, those outside 0x20 to 0x7e as `\xhh`. In a string of
 /// JSON a quotation mark and a backslash stand behind a backslash.
 #[derive(Clone, Copy)]
-pub(crate) struct PrintedWords<'a> {
-    pub(crate) words: &'a [u8],
-    pub(crate) form: Form,
+pub struct PrintedWords<'a> {
+    /// The bytes.
+    pub words: &'a [u8],
+    /// Where they are printed.
+    pub form: Form,
 }
 
 impl fmt::Display for PrintedWords<'_> {

@@ -7,9 +7,10 @@ use crate::picture::title::{XmlName, XmlWords};
 use std::alloc::{AllocError, Global};
 use std::fmt;
 use std::fmt::Write;
+use text::{Blanks, first_word};
 
-/// How many bytes of a file's name, or of place words, are shown at most.
-const MOST_BYTES: usize = 24;
+/// How many bytes of a file's name, or of a place word, are shown at most.
+const MOST_BYTES: usize = 64;
 
 /// How wide a byte of a label is at most, in pixels.
 const WIDTH: u64 = 6;
@@ -78,18 +79,33 @@ impl fmt::Display for Label<'_> {
                         name: front_of(at.name),
                     };
                     let line = at.line;
-                    write!(f, " {name}:{line}")
+                    write!(f, " at={name}:{line}")
                 }
                 None => Ok(()),
             },
-            Origin::Words(words) => {
-                let words = XmlWords {
-                    words: front_of(words),
-                };
-                write!(f, "{words}")
-            }
+            Origin::Words(words) => match source_word(words) {
+                Some(word) => {
+                    let words = XmlWords {
+                        words: front_of(word),
+                    };
+                    write!(f, " {words}")
+                }
+                None => Ok(()),
+            },
         }
     }
+}
+
+/// The first place word that names a line of a source.
+fn source_word(words: &[u8]) -> Option<&[u8]> {
+    let mut rest = words;
+    while let Some((word, behind)) = first_word(rest, Blanks::Spaces) {
+        if word.starts_with(b"line=") || word.starts_with(b"at=") {
+            return Some(word);
+        }
+        rest = behind;
+    }
+    None
 }
 
 /// As many bytes as are shown.
