@@ -2,7 +2,9 @@
 
 /// Lines for a reader, or objects of JSON (RFC 8259), one a line.
 #[derive(Clone, Copy)]
-pub(crate) enum Form {
+pub enum Form {
+    /// Lines.
     Text,
+    /// Objects, or what stands in their strings.
     Json,
 }
