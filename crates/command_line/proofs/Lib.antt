@@ -1,4 +1,5 @@
 pub mod Concluding
+mod FarItems
 mod FirstBad
 mod Held
 mod Kept

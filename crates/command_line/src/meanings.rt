@@ -1,8 +1,8 @@
-//! What is told of a failure beyond its first line: the file that is refused, the place in it, what the code means, and what is wanted.
+//! What is told of a refusal beyond its first line: the file that is refused, the place in it, what the code means, and what is wanted.
 
 ghost use Rattle.command_line.specs.FileNames.{names_in};
-ghost use Rattle.command_line.specs.Meanings.{ReadsThen, SaysLost, SaysMore, SaysRefused, behind_colon, first_name, in_brackets, lost_text, place_text, refused_file, told_hint};
-ghost use Rattle.std.specs.Prelude.{◌≡◌, [], IfOk, Ok, option_map, string_bytes};
+ghost use Rattle.command_line.specs.Meanings.{ReadsThen, SaysLost, SaysRefused, behind_colon, first_name, in_brackets, lost_text, place_text, refused_file, told_hint};
+ghost use Rattle.std.specs.Prelude.{◌≡◌, IfOk, option_map, string_bytes};
 ghost use Rattle.std.specs.Result.{result_map_both};
 
 use crate::details::detail_of;
@@ -16,37 +16,8 @@ use arguments::meaning_of;
 use report::{Form, PrintedWords};
 use std::alloc::{AllocError, Global};
 
-/// What is told of a failure of a command that reads files of these names: a line, or nothing where its first line says all that is known.
-pub(crate) fn further_text<F: Files>(
-    alloc: Global,
-    names: &FileNames<'_>,
-    failure: &Failure,
-    files: &mut F,
-) -> Result<String, Failure>
-    ensures { SaysMore F.read_gives (names_in names.now) failure.now files.old (result_map_both (λ text. string_bytes text) (λ failure. failure) result) files.new }
-{
-    match failure {
-        Failure::Refused(refusal) => refused_text(
-            alloc,
-            refused_file(names, refusal),
-            refusal,
-            files,
-        ),
-        Failure::File => lost_text(alloc, names, files),
-        Failure::Line(_) => nothing(alloc),
-        Failure::Unfinished(_) => nothing(alloc),
-        Failure::Memory => nothing(alloc),
-    }
-}
-
-fn nothing(alloc: Global) -> Result<String, Failure>
-    ensures { result_map_both (λ text. string_bytes text) (λ failure. failure) result ≡ Ok [] }
-{
-    Ok(String::new(alloc))
-}
-
 /// What a refusal means, with the place in the file that is refused.
-fn refused_text<F: Files>(
+pub(crate) fn refused_text<F: Files>(
     alloc: Global,
     name: Option<&str>,
     refusal: &Refusal,
@@ -117,7 +88,7 @@ fn place_text(
 }
 
 /// `: TEXT`, or nothing.
-fn behind_colon(alloc: Global, text: &str) -> Result<String, AllocError>
+pub(crate) fn behind_colon(alloc: Global, text: &str) -> Result<String, AllocError>
     ensures { IfOk result (λ told. string_bytes told ≡ behind_colon text.now) }
 {
     if text.is_empty() {
@@ -146,7 +117,7 @@ fn told_hint(kind: &'static str, hint: &'static str) -> &'static str
 }
 
 /// Which of the files can't be read.
-fn lost_text<F: Files>(
+pub(crate) fn lost_text<F: Files>(
     alloc: Global,
     names: &FileNames<'_>,
     files: &mut F,
@@ -180,7 +151,7 @@ pub(crate) fn refused_file<'a>(names: &FileNames<'a>, refusal: &Refusal) -> Opti
     match refusal {
         Refusal::Assembly(_) | Refusal::Object(_) | Refusal::Elf(_) => names.program,
         Refusal::Plan(_) => names.plan,
-        Refusal::ScheduleText | Refusal::Step(_) => names.schedule,
+        Refusal::ScheduleText | Refusal::Step(_) | Refusal::Beyond(_) => names.schedule,
         Refusal::Trace(_) => names.trace,
         Refusal::Medium | Refusal::Volume(_) => names.medium,
         Refusal::Foreign => names.program,

@@ -1,5 +1,5 @@
 use Rattle.std.proofs.Common.{refl}
-use Rattle.command_line.proofs.meanings.further_text.Goals as goal
+use Rattle.command_line.proofs.further.further_text.Goals as goal
 
 pub returns-in-File : goal.returns-in-File
 returns-in-File g c = rw c.in-File.is c.lost_text.ensures
