@@ -113,8 +113,8 @@ failure_status File = 5
 
 -- the failure for a file that wasn't read or written
 abbrev pub failure_of_file : FileFault → Failure
-failure_of_file files.Failed = File
 failure_of_file files.Memory = Memory
+failure_of_file fault = File
 
 -- for a source that wasn't assembled
 abbrev pub failure_by_code : AsmFault → AsmCode → Failure

@@ -37,6 +37,7 @@ pub mod Making
 pub mod Naming
 pub mod Noting
 pub mod Objects
+pub mod Others
 pub mod Outcomes
 pub mod Picturing
 pub mod Progress

@@ -7,7 +7,7 @@ use Rattle.command_line.specs.Details.{IsDetail}
 use Rattle.command_line.specs.Failures.{refusal_code}
 use Rattle.command_line.specs.FileNames.{Names}
 use Rattle.command_line.specs.Kinds.{IsKindTold}
-use Rattle.command_line.specs.LostFiles.{FindsLost}
+use Rattle.command_line.specs.LostFiles.{FindsLost, Lost}
 use Rattle.command_line.specs.Reports.{line_end}
 use Rattle.report.specs.PrintedWords.{printed_words}
 use Rattle.command_line.specs.Steps.{First, Reads, ReadsFile, Step, Still}
@@ -15,6 +15,8 @@ use Rattle.command_line.specs.declared.details.Detail.{Detail}
 use Rattle.command_line.specs.declared.failure.Failure.{Failure}
 use Rattle.command_line.specs.declared.failure.Failure.TheVariants.{Memory}
 use Rattle.command_line.specs.declared.failure.Refusal.{Refusal}
+use Rattle.command_line.specs.declared.files.FileFault.{FileFault}
+use Rattle.command_line.specs.declared.files.FileFault.TheVariants as files
 use Rattle.command_line.specs.declared.failure.Refusal.TheVariants.{Assembly, Object, Plan, ScheduleText, Trace, Medium, Volume, Step as Stopped, Beyond, Foreign, Moment, Image, Operation, Marks, Reply, NoReply, RecoverySource, RecoveryObject, Elf, RecoveryElf}
 
 -- the one, where there is one, and else the other
@@ -112,12 +114,24 @@ ReadsThen reads (Some name) says = First (ReadsFile reads name) (λ file. Still 
 abbrev pub files_read : Names → List (Option (List ℕ))
 files_read names = names.plan ∷ names.program ∷ names.schedule ∷ names.recovery ∷ names.medium ∷ names.trace ∷ []
 
-abbrev pub lost_text : Option (List ℕ) → List ℕ
-lost_text None = []
-lost_text (Some name) = printed_words name ++ codes ": can't be read\n"
+-- why a file can't be read
+abbrev pub cause_text : FileFault → List ℕ
+cause_text files.Missing = codes "no such file"
+cause_text files.Folder = codes "a folder"
+cause_text files.Forbidden = codes "permission refused"
+cause_text files.TooLong = codes "more than 67108864 bytes"
+cause_text files.Failed = codes "can't be read"
+cause_text files.Memory = codes "can't be read"
 
--- which of them can't be read
+abbrev pub lost_line : Lost → List ℕ
+lost_line lost = printed_words lost.name ++ (codes ": " ++ (cause_text lost.fault ++ line_end))
+
+abbrev pub lost_text : Option Lost → List ℕ
+lost_text None = []
+lost_text (Some lost) = lost_line lost
+
+-- which of them can't be read, and why
 pub record SaysLost {F : Type 0} (reads : Reads F) (names : Names) (old : F) (outcome : Result (List ℕ) Failure) (new : F) : Type 0 where
-  pub lost : Option (List ℕ)
+  pub lost : Option Lost
   pub finds : FindsLost reads (files_read names) old lost new
   pub says : MatchResult outcome (λ text. text ≡ lost_text lost) (λ failure. failure ≡ Memory)

@@ -25,8 +25,8 @@ impl From<FileFault> for Failure {
 
     fn from(fault: FileFault) -> Failure {
         match fault {
-            FileFault::Failed => Failure::File,
             FileFault::Memory => Failure::Memory,
+            _ => Failure::File,
         }
     }
 }

@@ -41,6 +41,7 @@ mod naming;
 mod noting;
 mod objects;
 mod opened;
+mod others;
 mod picture;
 mod progress;
 mod reading;

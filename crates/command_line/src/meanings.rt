@@ -1,50 +1,23 @@
 //! What is told of a refusal beyond its first line: the file that is refused, the place in it, what the code means, and what is wanted.
 
 ghost use Rattle.command_line.specs.FileNames.{names_in};
-ghost use Rattle.command_line.specs.Meanings.{ReadsThen, SaysLost, SaysRefused, behind_colon, first_name, in_brackets, lost_text, place_text, refused_file, told_hint};
+ghost use Rattle.command_line.specs.Meanings.{SaysLost, SaysRefused, behind_colon, cause_text, first_name, in_brackets, lost_line, place_text, refused_file, told_hint};
+ghost use Rattle.command_line.specs.LostFiles.{lost_in};
 ghost use Rattle.std.specs.Prelude.{◌≡◌, IfOk, option_map, string_bytes};
 ghost use Rattle.std.specs.Result.{result_map_both};
 
 use crate::details::detail_of;
 use crate::failure::{Failure, Refusal};
 use crate::file_names::FileNames;
-use crate::files::Files;
+use crate::files::{FileFault, Files};
 use crate::kinds::kind_told;
-use crate::lost_files::find_lost;
-use crate::reading::read_file;
+use crate::lost_files::{LostFile, find_lost};
 use arguments::meaning_of;
 use report::{Form, PrintedWords};
 use std::alloc::{AllocError, Global};
 
-/// What a refusal means, with the place in the file that is refused.
-pub(crate) fn refused_text<F: Files>(
-    alloc: Global,
-    name: Option<&str>,
-    refusal: &Refusal,
-    files: &mut F,
-) -> Result<String, Failure>
-    ensures { ReadsThen F.read_gives (option_map (λ name. name.now) name.entry) (SaysRefused (option_map (λ name. name.now) name.entry) refusal.now) files.old (result_map_both (λ text. string_bytes text) (λ failure. failure) result) files.new }
-{
-    match name {
-        Some(file) => refused_in(alloc, file, refusal, files),
-        None => meaning_text(alloc, None, refusal, &[]),
-    }
-}
-
-fn refused_in<F: Files>(
-    alloc: Global,
-    name: &str,
-    refusal: &Refusal,
-    files: &mut F,
-) -> Result<String, Failure>
-    ensures { ReadsThen F.read_gives (Some name.now) (SaysRefused (Some name.now) refusal.now) files.old (result_map_both (λ text. string_bytes text) (λ failure. failure) result) files.new }
-{
-    let file = read_file(name, files)?;
-    meaning_text(alloc, Some(name), refusal, &file)
-}
-
 /// What a refusal means, where the file that is refused has these bytes.
-fn meaning_text(
+pub(crate) fn meaning_text(
     alloc: Global,
     name: Option<&str>,
     refusal: &Refusal,
@@ -133,14 +106,32 @@ pub(crate) fn lost_text<F: Files>(
         trace,
     } = *names;
     match find_lost(&[plan, program, schedule, recovery, medium, trace], files) {
-        Some(name) => {
-            let name = PrintedWords {
-                words: name.as_bytes(),
-                form: Form::Text,
-            };
-            Ok(format!(in alloc; "{name}: can't be read\n")?)
-        }
+        Some(lost) => Ok(lost_line(alloc, lost)?),
         None => Ok(String::new(alloc)),
+    }
+}
+
+fn lost_line(alloc: Global, lost: LostFile<'_>) -> Result<String, AllocError>
+    ensures { IfOk result (λ text. string_bytes text ≡ lost_line (lost_in lost.entry)) }
+{
+    let name = PrintedWords {
+        words: lost.name.as_bytes(),
+        form: Form::Text,
+    };
+    let cause = cause_text(lost.fault);
+    format!(in alloc; "{name}: {cause}\n")
+}
+
+/// Why a file can't be read.
+fn cause_text(fault: FileFault) -> &'static str
+    ensures { result.now ≡ cause_text fault }
+{
+    match fault {
+        FileFault::Missing => "no such file",
+        FileFault::Folder => "a folder",
+        FileFault::Forbidden => "permission refused",
+        FileFault::TooLong => "more than 67108864 bytes",
+        FileFault::Failed | FileFault::Memory => "can't be read",
     }
 }
 
