@@ -191,8 +191,8 @@ unfoldable pub judge_of_file_shape : Shape
 judge_of_file_shape = record (new_shape (codes "judge")) {
   rules = needed_option (codes "trace") ∷ optional_word (codes "RECOVERY") ∷ flag_option (codes "ask") ∷ valued_option (codes "medium")
       ∷ valued_option (codes "steps") ∷ valued_option (codes "workers") ∷ flag_option (codes "overlapping") ∷ valued_option (codes "moments")
-      ∷ flag_option (codes "go-on") ∷ flag_option (codes "whole") ∷ flag_option (codes "why") ∷ flag_option (codes "json")
-      ∷ flag_option (codes "progress") ∷ flag_option (codes "quiet") ∷ help_option ∷ [];
+      ∷ flag_option (codes "go-on") ∷ flag_option (codes "whole") ∷ flag_option (codes "why") ∷ flag_option (codes "answers")
+      ∷ flag_option (codes "json") ∷ flag_option (codes "progress") ∷ flag_option (codes "quiet") ∷ help_option ∷ [];
 }
 
 -- `check-all PLAN PROGRAM [--medium FILE --harts N --states N --any-end --why --json --progress]`

@@ -76,7 +76,7 @@ impl fmt::Display for Label<'_> {
             Origin::Executable(place) => match place.line {
                 Some(at) => {
                     let name = XmlName {
-                        name: front_of(at.name),
+                        name: at_most(at.name, MOST_BYTES),
                     };
                     let line = at.line;
                     write!(f, " at={name}:{line}")
@@ -86,7 +86,7 @@ impl fmt::Display for Label<'_> {
             Origin::Words(words) => match source_word(words) {
                 Some(word) => {
                     let words = XmlWords {
-                        words: front_of(word),
+                        words: at_most(word, MOST_BYTES),
                     };
                     write!(f, " {words}")
                 }
@@ -108,10 +108,10 @@ fn source_word(words: &[u8]) -> Option<&[u8]> {
     None
 }
 
-/// As many bytes as are shown.
-fn front_of(bytes: &[u8]) -> &[u8] {
-    if bytes.len() > MOST_BYTES {
-        &bytes[..MOST_BYTES]
+/// So many bytes, or all where there are fewer.
+fn at_most(bytes: &[u8], most: usize) -> &[u8] {
+    if bytes.len() > most {
+        &bytes[..most]
     } else {
         bytes
     }
