@@ -1,5 +1,5 @@
 -- The passes over the lines of a source, from one line to the next.
-use Rattle.std.proofs.Common.{◌≡◌, ◌∙◌, ◌⊎◌, Bool, false, ℕ, suc, ◌+◌, ◌<◌, ◌≤◌, List, [], ◌∷◌, ◌++◌, Option, absurd, ap, arith, append_assoc, append-nil, inl, inr, length, refl, subst, sym}
+use Rattle.std.proofs.Common.{◌≡◌, ◌∙◌, ◌⊎◌, Bool, false, ℕ, zero, suc, ◌+◌, ◌<◌, ◌≤◌, List, [], ◌∷◌, ◌++◌, Option, ap, arith, append_assoc, append-nil, inl, inr, length, refl, subst, sym}
 use Rattle.std.specs.Prelude.{Some, None, nat_eq}
 use mathlib.Core.List.{reverse_aux}
 use Rattle.asm_lex.specs.Lines.{lines_of}
@@ -180,5 +180,5 @@ early_are_all source most (fault ∷ faults) first some = record {
 }
 
 pub some_found : (n : ℕ) (b : Bool) (found : List AsmFault) → b ≡ nat_eq n 0 → b ≡ false → n ≡ length found → length found ≡ 0 → ⊥
-some_found 0 b found is no long none = cc
-some_found (suc n) b found is no long none = omega (arith, long, none)
+some_found zero b found is false_is long none = cc
+some_found (suc n) b found is false_is long none = omega (arith, long, none)

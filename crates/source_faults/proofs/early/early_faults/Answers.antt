@@ -16,7 +16,8 @@ loop-line-preserved c = record {
 }
 
 pub returns-then-len-most : goal.returns-then-len-most
-returns-then-len-most c = let h = c.len.ensures in let k = c.if-len-most.true in ?
+returns-then-len-most c =
+    early_full _ _ _ _ _ _ _ (omega (arith, c.len.ensures, c.if-len-most.true, c.loop-line.found.ok.0)) c.loop-line.invariant.passed
 
 pub returns : goal.returns
 returns c = early_end _ _ _ _ _ _ _ c.in_default.ensures c.loop-line.invariant.passed
