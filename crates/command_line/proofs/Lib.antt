@@ -1,4 +1,5 @@
 pub mod Concluding
+mod Absences
 mod FarItems
 mod FirstBad
 mod Held

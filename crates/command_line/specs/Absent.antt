@@ -28,14 +28,15 @@ use Rattle.command_line.specs.declared.failure.Refusal.TheVariants.{Moment, Imag
 abbrev pub plural : ℕ → List ℕ
 plural count = if count == 1 then [] else codes "s"
 
--- `M (the run has N events)`, or `the trace`
-abbrev pub events_text : List ℕ → ℕ → ℕ → List ℕ
-events_text owner moment events =
-    decimal moment ++ (codes " (" ++ (owner ++ (codes " has " ++ (decimal events ++ (codes " event" ++ (plural events ++ codes ")"))))))
+-- what has the events
+abbrev pub owner : OpenEvents → List ℕ
+owner (Run made) = codes "the run"
+owner (Trace trace) = codes "the trace"
 
+-- `M (the run has N events)`
 abbrev pub moment_text : ℕ → OpenEvents → List ℕ
-moment_text moment (Run made) = events_text (codes "the run") moment (length (events_of (Run made)))
-moment_text moment (Trace trace) = events_text (codes "the trace") moment (length (events_of (Trace trace)))
+moment_text moment opened = decimal moment ++ (codes " (" ++ (owner opened ++ (codes " has "
+    ++ (decimal (length (events_of opened)) ++ (codes " event" ++ (plural (length (events_of opened)) ++ codes ")"))))))
 
 -- `IMAGE (moment M has N images)`; of over 65,536 none is named by its number
 abbrev pub count_text : Option ℕ → List ℕ

@@ -1,6 +1,6 @@
 //! What events have in place of a moment, or of an image, that isn't there.
 
-ghost use Rattle.command_line.specs.Absent.{IsImageTold, SaysAbsent, SaysCounted, SaysMeaning, SaysOfRun, SaysOfSource, SaysOfTrace, images_text, moment_text, plural};
+ghost use Rattle.command_line.specs.Absent.{IsImageTold, SaysAbsent, SaysCounted, SaysMeaning, SaysOfRun, SaysOfSource, SaysOfTrace, images_text, moment_text, owner, plural};
 ghost use Rattle.command_line.specs.Traces.{IsOpen, events_of};
 ghost use Rattle.command_line.specs.Verdicts.{first_of};
 ghost use Rattle.command_line.specs.declared.failure.Failure.TheVariants.{Memory};
@@ -190,11 +190,19 @@ fn told_meaning(alloc: Global, refusal: &Refusal, found: &str) -> Result<String,
 fn moment_text(alloc: Global, opened: &OpenEvents, moment: u32) -> Result<String, AllocError>
     ensures { IfOk result (λ text. string_bytes text ≡ moment_text moment opened.now) }
 {
+    let owner = owner(opened);
     let events = opened.trace().events().len();
     let end = plural(events);
+    format!(in alloc; "{moment} ({owner} has {events} event{end})")
+}
+
+/// What has the events, in words.
+fn owner(opened: &OpenEvents) -> &'static str
+    ensures { result.now ≡ owner opened.now }
+{
     match opened {
-        OpenEvents::Run(_) => format!(in alloc; "{moment} (the run has {events} event{end})"),
-        OpenEvents::Trace(_) => format!(in alloc; "{moment} (the trace has {events} event{end})"),
+        OpenEvents::Run(_) => "the run",
+        OpenEvents::Trace(_) => "the trace",
     }
 }
 
