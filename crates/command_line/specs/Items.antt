@@ -1,5 +1,5 @@
 -- The items of a schedule's text.
-use Rattle.std.specs.Prelude.{◌≡◌, ◌⊎◌, ℕ, ◌+◌, ◌==◌, nat_le, Bool, false, List, [], ◌∷◌, ◌++◌, Option, Some, None, All, codes, if◌then◌else◌, length, option_map, position, slice_get}
+use Rattle.std.specs.Prelude.{◌≡◌, ◌⊎◌, ℕ, ◌+◌, ◌==◌, nat_le, Bool, false, List, [], ◌∷◌, ◌++◌, Some, None, All, codes, if◌then◌else◌, length, option_map, position, slice_get}
 use Rattle.std.specs.List.{list_any}
 use Rattle.machine.specs.Grammar.{IsSchedule}
 use Rattle.machine.specs.declared.schedule.items.Item.{Item}

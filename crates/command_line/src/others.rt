@@ -1,8 +1,7 @@
 //! The lines of a source that are at fault behind the first one.
 
-ghost use Rattle.assemble.specs.declared.TheConstants.{SOURCE_LIMIT};
 ghost use Rattle.command_line.specs.Others.{SaysBehind, SaysIf, SaysOthers, source_fault, with_fault};
-ghost use Rattle.std.specs.Prelude.{◌≡◌, ◌≤◌, length, option_map, string_bytes};
+ghost use Rattle.std.specs.Prelude.{◌≡◌, option_map, string_bytes};
 ghost use Rattle.std.specs.Result.{result_map_both};
 
 use crate::failure::{Failure, Refusal};

@@ -1,5 +1,5 @@
 -- The passes over the lines of a source, from one line to the next.
-use Rattle.std.proofs.Common.{◌≡◌, ◌∙◌, ◌⊎◌, Bool, false, ℕ, zero, suc, ◌+◌, ◌<◌, ◌≤◌, List, [], ◌∷◌, ◌++◌, Option, ap, arith, append_assoc, append-nil, inl, inr, length, refl, subst, sym}
+use Rattle.std.proofs.Common.{◌≡◌, ◌∙◌, Bool, false, ℕ, zero, suc, ◌+◌, ◌<◌, ◌≤◌, List, [], ◌∷◌, ◌++◌, Option, ap, arith, append_assoc, append-nil, inl, inr, length, refl, subst, sym}
 use Rattle.std.specs.Prelude.{Some, None, nat_eq}
 use mathlib.Core.List.{reverse_aux}
 use Rattle.asm_lex.specs.Lines.{lines_of}
@@ -12,7 +12,7 @@ use Rattle.assemble.specs.declared.fault.AsmFault.{AsmFault}
 use Rattle.assemble.specs.Labels.{place_at}
 use Rattle.source_faults.proofs.First.{after_none, early_none, early_some, next_end, next_start, next_step, placed_none}
 use Rattle.source_faults.specs.Faults.{AreFirst, early_faults, fault_at, faults_among, faults_behind, faults_of, late_faults, or_else, sound, with_line}
-use Rattle.source_faults.specs.Places.{Early, IsNext, IsPlaced, Late}
+use Rattle.source_faults.specs.Places.{Early, IsPlaced, Late}
 use Rattle.source_faults.specs.Positions.{IsAfter, start}
 use Rattle.assemble.specs.declared.labels.Labels.{Labels}
 use Rattle.source_faults.specs.declared.position.Position.{Position}

@@ -1,6 +1,6 @@
 //! Where lines stand, as `assemble` places them.
 
-ghost use Rattle.std.specs.Prelude.{◌≡◌, ◌+◌, ◌≤◌, ◌<◌, ◌^◌, min};
+ghost use Rattle.std.specs.Prelude.{◌≡◌, ◌+◌, ◌≤◌, ◌<◌, min};
 ghost use Rattle.assemble.specs.Meanings.{meaning_of, IsInRange};
 ghost use Rattle.assemble.specs.Places.{base_of, limit_of, padding, size_at};
 ghost use Rattle.assemble.specs.SourceLines.{stands_in as may_stand};
