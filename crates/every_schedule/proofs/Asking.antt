@@ -12,7 +12,7 @@ use Rattle.hart.specs.declared.state.Status.TheVariants.{Exited, Running, Trappe
 use Rattle.line_memory.specs.Memory.{Memory}
 use Rattle.machine.proofs.Determined.{needs_once, runs_once}
 use Rattle.machine.proofs.RunParts.{run_joined}
-use Rattle.machine.specs.Represents.{IsRunning, MachineView, NeedsAt, Represents, Runs, copy_of}
+use Rattle.machine.specs.Represents.{IsRunning, MachineView, NeedsAt, Represents, Runs}
 use Rattle.machine.specs.Run.{Config, HartSteps, HartStepsIfThere, Meets, RunsTo, StepsTo, fetched, fetched_by}
 use Rattle.machine.specs.RunValues.{RunView, start_of}
 use Rattle.machine.specs.Steps.{all_steps}

@@ -121,6 +121,10 @@ impl StateJudge for AtomicJudge<'_> {
         !self.any_end
     }
 
+    fn may_claim(&self) -> bool {
+        true
+    }
+
     ghost unmarked = { λ s precedence events event plain kept.
         other_operations events event (operations_in precedence) plain.begun plain.ended kept };
 

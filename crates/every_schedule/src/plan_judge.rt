@@ -81,6 +81,10 @@ impl StateJudge for PlanJudge<'_> {
         !self.any_end
     }
 
+    fn may_claim(&self) -> bool {
+        true
+    }
+
     fn judge<T: Threads + Sync>(
         &self,
         rt: &T,

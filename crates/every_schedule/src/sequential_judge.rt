@@ -110,6 +110,11 @@ impl StateJudge for SequentialJudge<'_> {
         false
     }
 
+    /// What loads find behind a run is noted, so steps of harts may not be left out.
+    fn may_claim(&self) -> bool {
+        false
+    }
+
     ghost unmarked = { λ s standing events event plain kept. kept_unmarked standing events event plain kept };
 
     ghost equal = { λ s one other events same kept. kept_equal one other events same kept };

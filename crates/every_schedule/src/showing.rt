@@ -65,7 +65,7 @@ pub(crate) fn show<T: Threads + Sync, J: RunJudge>(
     ensures found { IfOk result (IsFoundBy (J.says judge.now) setup.now) }
     ensures no_pass { IfOk result PassesNot }
 {
-    if let Why::Stop(Stop::TooLong(_)) = sought.why {
+    if let Why::Stop(Stop::TooLong(_) | Stop::Claimed(_)) = sought.why {
         return Ok(Outcome::TooMany(Bound::Steps));
     }
     if let Some(outcome) = show_whole(rt, alloc, judge, setup, sought)? {
@@ -93,7 +93,8 @@ fn show_whole<T: Threads + Sync, J: RunJudge>(
         Why::Stop(Stop::Bad | Stop::Ended(_)) | Why::NoOperation => {
             show_by(rt, alloc, judge, setup, sought, true)
         }
-        Why::Stop(Stop::TooManyBranches | Stop::Refused(_) | Stop::TooLong(_)) => Ok(None),
+        Why::Stop(Stop::TooManyBranches | Stop::Refused(_) | Stop::TooLong(_) | Stop::Claimed(_)) =>
+            Ok(None),
     }
 }
 
@@ -187,7 +188,8 @@ fn follow(follower: &mut Follower, sought: Sought<'_>, goes_on: bool) -> Result<
     match sought.why {
         Why::Stop(Stop::Refused(hart)) => follower.make_request(hart)?,
         Why::Stop(Stop::Ended(hart)) => follower.run_ahead(hart)?,
-        Why::Stop(Stop::Bad | Stop::TooManyBranches | Stop::TooLong(_)) | Why::NoOperation => {}
+        Why::Stop(Stop::Bad | Stop::TooManyBranches | Stop::TooLong(_) | Stop::Claimed(_))
+        | Why::NoOperation => {}
     }
     if goes_on {
         follower.take_turns()

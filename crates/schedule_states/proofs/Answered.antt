@@ -104,7 +104,7 @@ renewed_text c h request renews =
     let test : is_renewal h (Asked h request (reply_after c.common h request)) ≡ true = grind (arith, nat_tests, renews) in
     rw test refl
 
-kept_text : (c : Config) (h g : ℕ) (request : Request) → (is_renewing request ≡ false) ⊎ (h ≢ g) → text_for (shared_after c.common h request) g ≡ text_for c.common g
+pub kept_text : (c : Config) (h g : ℕ) (request : Request) → (is_renewing request ≡ false) ⊎ (h ≢ g) → text_for (shared_after c.common h request) g ≡ text_for c.common g
 kept_text c h g request (inl not_renewing) =
     let test : is_renewal g (Asked h request (reply_after c.common h request)) ≡ false = grind (arith, nat_tests, not_renewing) in
     rw test refl

@@ -3,6 +3,7 @@ use Rattle.std.proofs.Common.{◌≡◌, inl, inr, ℕ, ◌+◌, ◌<◌, ◌≤
 use Rattle.std.proofs.lemmas.Bool.{cases_eq}
 use Rattle.std.proofs.lemmas.List.{same_lists}
 use Rattle.std.proofs.lemmas.Option.{same_Some, slice_get-get_or, slice_get_within}
+use Rattle.hart.specs.declared.need.Request.{Request}
 use Rattle.hart.specs.declared.state.Status.{Status}
 use Rattle.machine.specs.Replies.{trace_in}
 use Rattle.machine.specs.Run.{Config}
@@ -11,10 +12,13 @@ use Rattle.schedule_states.proofs.Covering.{stands_grown, stands_same}
 use Rattle.schedule_states.proofs.Growing.{grown_then}
 use Rattle.schedule_states.proofs.Looking.{got_kept}
 use Rattle.schedule_states.proofs.Numbering.{lists_kept, lists_of_met, met_kept}
-use Rattle.schedule_states.specs.Covering.{Covers, IsClosed, IsClosedAt, IsClosedBelow, IsMet, PartsEndWell, ReachedView}
+use Rattle.schedule_states.specs.Behind.{GoesOwnBy, IsFit}
+use Rattle.schedule_states.specs.Claims.{claim_in}
+use Rattle.schedule_states.specs.Covering.{CoversAt, IsClosed, IsClosedAt, IsClosedBelow, IsMet, IsTaken, PartsEndWell, ReachedView}
 use Rattle.schedule_states.specs.Reaching.{AreNumbered, AreThere, HaveGrown, IsClosedBy, IsClosedFor, WereBefore}
 use Rattle.schedule_states.specs.States.{AreGrown, PartsView}
 use Rattle.schedule_states.specs.Successors.{HasLists}
+use Rattle.schedule_states.specs.declared.claims.ClaimedLine.{ClaimedLine}
 use Rattle.schedule_states.specs.declared.program_state.HartPart.{HartPart}
 use Rattle.schedule_states.specs.declared.program_state.ProgramState.{ProgramState}
 use Rattle.schedule_states.specs.declared.program_state.StateNumbers.{StateNumbers}
@@ -31,13 +35,30 @@ grown_twice a b c one two = record {
 pub before_twice : (a b c : PartsView) → AreGrown a b → WereBefore a b → WereBefore b c → WereBefore a c
 before_twice a b c grown one two s k lists stands = one s k lists (two s k (lists_kept a b s grown lists) stands)
 
-pub covers_kept : {T : Type 0} (stands : T → List Event → Type 0) (old new : ReachedView T) (d : Config) → HaveGrown old new → Covers stands old d → Covers stands new d
-covers_kept stands old new d grown covers = record {
-  state = covers.state;
-  standing = covers.standing;
-  number = covers.number;
-  met = met_kept old new covers.number covers.state covers.standing grown covers.met;
-  stands_as = (stands_grown old.parts new.parts covers.state d grown.parts covers.stands_as.0, covers.stands_as.1);
+-- what the state of a number stands for
+pub covers_at_kept : {T : Type 0} (stands : T → List Event → Type 0) (old new : ReachedView T) (n : ℕ) (d : Config) → HaveGrown old new → CoversAt stands old n d → CoversAt stands new n d
+covers_at_kept stands old new n d grown at = (
+  record {
+    state = at.0.state;
+    standing = at.0.standing;
+    number = at.0.number;
+    met = met_kept old new at.0.number at.0.state at.0.standing grown at.0.met;
+    stands_as = (stands_grown old.parts new.parts at.0.state d grown.parts at.0.stands_as.0, at.0.stands_as.1);
+  },
+  at.1,
+)
+
+pub taken_kept : {T : Type 0} (stands : T → List Event → Type 0) (old new : ReachedView T) (t : T) (h n : ℕ) (c d : Config) (request : Request) → HaveGrown old new →
+    IsTaken stands old t h n c d request → IsTaken stands new t h n c d request
+unfolding covers_at_kept
+taken_kept stands old new t h n c d request grown taken = record {
+  fits = subst (λ (claims : List ClaimedLine). IsFit (claim_in claims) h request) (sym grown.parts.claims) taken.fits;
+  steps = taken.steps;
+  end = taken.end;
+  goes = subst (λ (claims : List ClaimedLine). GoesOwnBy (claim_in claims) h taken.steps d taken.end) (sym grown.parts.claims) taken.goes;
+  none = λ none. taken.none (sym grown.parts.claims ∙ none);
+  at = covers_at_kept stands old new n taken.end grown taken.at;
+  kept = taken.kept;
 }
 
 pub closed_more : {T : Type 0} (stands : T → List Event → Type 0) (allows : List Event → ℕ → Type 0) (old new : ReachedView T) (s : ProgramState) (t : T) (count : ℕ) →
@@ -46,7 +67,8 @@ pub closed_more : {T : Type 0} (stands : T → List Event → Type 0) (allows : 
 closed_more stands allows old new s t count closed lists grown before here h few = elim (cases_eq h count) [
   | inl same ↦ subst (λ (k : ℕ). IsClosedBy stands allows new s t k) (sym same) here
   | inr other ↦ λ c d stands_as may asks.
-      covers_kept stands old new d grown (closed h (omega (arith, few, other)) c d (before s c lists stands_as.0, stands_as.1) may asks)
+      let was : (n : ℕ) × IsTaken stands old t h n c d asks.request = closed h (omega (arith, few, other)) c d (before s c lists stands_as.0, stands_as.1) may asks in
+      (was.0, taken_kept stands old new t h was.0 c d asks.request grown was.1)
 ]
 
 -- two states of the same number have the same parts
@@ -75,10 +97,10 @@ pub closed_at : {T : Type 0} (stands : T → List Event → Type 0) (allows : Li
     (s : ProgramState) (t : T) → IsMet r n s t → IsClosedFor stands allows r s t r.harts → PartsEndWell ends s.harts.items → IsClosedAt stands allows ends r n
 closed_at {T} stands allows ends r n s t met closed well = record {
   covered = λ h u v c d other few stands_as may asks.
-      closed h few c d (
+      subst (λ (x : T). (k : ℕ) × IsTaken stands r x h k c d asks.request) (sym (same_standing r n s u t v met other)) (closed h few c d (
         stands_same r.parts u s c (same_harts r n u s v t other met) (same_memory r n u s v t other met) stands_as.0,
         subst (λ (x : T). stands x (trace_in c.common)) (sym (same_standing r n u s v t other met)) stands_as.1,
-      ) may asks;
+      ) may asks);
   ended = λ u v other. subst (λ (parts : List HartPart). PartsEndWell ends parts) (sym (same_harts r n s u t v met other)) well;
 }
 
@@ -107,7 +129,8 @@ closed_still stands allows ends old new n are grown before there closed = record
       let was : IsMet old n s t = met_before old new n s t are grown there met in
       let lists : HasLists old.parts s = lists_of_met old n s t was (are.each n was.numbers was.found) in
       let near : h < old.harts = omega (arith, few, grown.harts) in
-      covers_kept stands old new d grown (closed.covered h s t c d was near (before s c lists stands_as.0, stands_as.1) may asks);
+      let taken : (k : ℕ) × IsTaken stands old t h k c d asks.request = closed.covered h s t c d was near (before s c lists stands_as.0, stands_as.1) may asks in
+      (taken.0, taken_kept stands old new t h taken.0 c d asks.request grown taken.1);
   ended = λ s t met. closed.ended s t (met_before old new n s t are grown there met);
 }
 

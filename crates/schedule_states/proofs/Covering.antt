@@ -13,7 +13,7 @@ use Rattle.store_trace.specs.declared.event.Event.{Event}
 use Rattle.schedule_states.proofs.Answered.{text_grown}
 use Rattle.schedule_states.proofs.Putting.{memory_of_grown}
 use Rattle.schedule_states.proofs.Standing.{stands_or_asks, stopped_itself}
-use Rattle.schedule_states.specs.Covering.{Covers, IsClosed, PartsEndWell, ReachedView}
+use Rattle.schedule_states.specs.Covering.{Covers, IsClosed, IsTaken, PartsEndWell, ReachedView}
 use Rattle.schedule_states.specs.Judging.{HaveEndedWell}
 use Rattle.schedule_states.specs.Memories.{IsMemoryOf}
 use Rattle.schedule_states.specs.StartLines.{StartView}
@@ -23,8 +23,8 @@ use Rattle.schedule_states.specs.declared.program_state.HartPart.{HartPart}
 use Rattle.schedule_states.specs.declared.program_state.ProgramState.{ProgramState}
 
 covers_step : {T : Type 0} (stands : T → List Event → Type 0) (allows : List Event → ℕ → Type 0) (ends : Status → Type 0) (r : ReachedView T) (c d : Config) (step : Step) →
-    IsClosed stands allows ends r → ((h : ℕ) → step ≡ Hart h → allows (trace_in c.common) h) → Covers stands r c → StepsTo c step d → Covers stands r d
-covers_step stands allows ends r c d step closed may covers steps = elim (stands_or_asks r.parts covers.state c d step covers.stands_as.0 steps) [
+    r.parts.claims ≡ [] → IsClosed stands allows ends r → ((h : ℕ) → step ≡ Hart h → allows (trace_in c.common) h) → Covers stands r c → StepsTo c step d → Covers stands r d
+covers_step stands allows ends r c d step none closed may covers steps = elim (stands_or_asks r.parts covers.state c d step covers.stands_as.0 steps) [
   | inl still ↦ record {
     state = covers.state;
     standing = covers.standing;
@@ -35,8 +35,10 @@ covers_step stands allows ends r c d step closed may covers steps = elim (stands
   | inr asks ↦
       let there : asks.0 < length c.harts = slice_get_within c.harts asks.0 asks.1.own asks.1.here in
       let few : asks.0 < r.harts = subst (λ (n : ℕ). asks.0 < n) (sym covers.stands_as.0.count ∙ covers.met.count) there in
+      let taken : (n : ℕ) × IsTaken stands r covers.standing asks.0 n c d asks.1.request =
       (closed covers.number (slice_get_within r.states covers.number covers.met.numbers covers.met.found)).covered asks.0 covers.state covers.standing c d
-      covers.met few covers.stands_as (may asks.0 asks.2) asks.1
+      covers.met few covers.stands_as (may asks.0 asks.2) asks.1 in
+      subst (λ (e : Config). Covers stands r e) (taken.1.none none) taken.1.at.0
 ]
 
 -- the schedule behind its first step keeps to the rule too
@@ -45,11 +47,11 @@ keeps_on : (allows : List Event → ℕ → Type 0) (c d : Config) (step : Step)
 keeps_on allows c d step steps first keeps before after h e is runs = keeps (step ∷ before) after h e (ap (λ (rest : List Step). step ∷ rest) is) (d, first, runs)
 
 pub covers_run : {T : Type 0} (stands : T → List Event → Type 0) (allows : List Event → ℕ → Type 0) (ends : Status → Type 0) (r : ReachedView T) (c d : Config)
-    (steps : List Step) → IsClosed stands allows ends r → Covers stands r c → RunsTo c steps d → KeepsTo allows c steps → Covers stands r d
-covers_run stands allows ends r c d [] closed covers runs keeps = subst (λ (e : Config). Covers stands r e) (sym runs) covers
-covers_run stands allows ends r c d (step ∷ steps) closed covers runs keeps =
+    (steps : List Step) → r.parts.claims ≡ [] → IsClosed stands allows ends r → Covers stands r c → RunsTo c steps d → KeepsTo allows c steps → Covers stands r d
+covers_run stands allows ends r c d [] none closed covers runs keeps = subst (λ (e : Config). Covers stands r e) (sym runs) covers
+covers_run stands allows ends r c d (step ∷ steps) none closed covers runs keeps =
     let may : (h : ℕ) → step ≡ Hart h → allows (trace_in c.common) h = λ h is. keeps [] steps h c (ap (λ (s : Step). s ∷ steps) is) refl in
-    covers_run stands allows ends r runs.0 d steps closed (covers_step stands allows ends r c runs.0 step closed may covers runs.1) runs.2
+    covers_run stands allows ends r runs.0 d steps none closed (covers_step stands allows ends r c runs.0 step none closed may covers runs.1) runs.2
     (keeps_on allows c runs.0 step steps runs.1 keeps)
 
 -- harts have stopped as they may where those of the state have

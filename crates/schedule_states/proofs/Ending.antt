@@ -19,8 +19,8 @@ use Rattle.schedule_states.proofs.Covering.{covers_run}
 use Rattle.schedule_states.proofs.Happening.{same_hart, steps_alone}
 use Rattle.schedule_states.proofs.Looking.{got_left}
 use Rattle.schedule_states.proofs.Standing.{first_alone, stands_alone, stands_or_asks, stopped_itself}
-use Rattle.schedule_states.specs.Covering.{Covers, IsClosed, IsMet, ReachedView}
-use Rattle.schedule_states.specs.Ending.{AlwaysEnds, AnyMayGo, AreEnds, AreTurns, AreTurnsBelow, CanEnd, CoversAt, GoesAsking, GoesBy, GoesQuietly, HasNoWayOut, HavePartsStopped, HaveStopped, LeadsTo}
+use Rattle.schedule_states.specs.Covering.{Covers, CoversAt, IsClosed, IsMet, IsTaken, ReachedView}
+use Rattle.schedule_states.specs.Ending.{AlwaysEnds, AnyMayGo, AreEnds, AreTurns, AreTurnsBelow, CanEnd, GoesAsking, GoesBy, GoesQuietly, HasNoWayOut, HavePartsStopped, HaveStopped, LeadsTo}
 use Rattle.schedule_states.specs.Leads.{AreOfHarts}
 use Rattle.schedule_states.specs.States.{AsksTo, IsHartOf, PartsView, StandsFor, text_for}
 use Rattle.schedule_states.specs.Ways.{IsMarked, LeadsOut, walked}
@@ -164,10 +164,10 @@ each_can_end stands allows r next all out c covers =
     can_end stands allows r next way.marks all.turns way.ends covers.number way.leads c (covers, refl)
 
 pub always_ends : {T : Type 0} (stands : T → List Event → Type 0) (allows : List Event → ℕ → Type 0) (ends : Status → Type 0) (r : ReachedView T) (program : Sections)
-    (medium : List (List ℕ)) (harts : ℕ) → IsClosed stands allows ends r → Covers stands r (started program medium harts) → AnyMayGo allows → EachCanEnd stands r →
+    (medium : List (List ℕ)) (harts : ℕ) → r.parts.claims ≡ [] → IsClosed stands allows ends r → Covers stands r (started program medium harts) → AnyMayGo allows → EachCanEnd stands r →
     AlwaysEnds program medium harts
-always_ends stands allows ends r program medium harts closed start free each steps c runs =
-    each c (covers_run stands allows ends r (started program medium harts) c steps closed start runs (λ before after h d is led. free (trace_in d.common) h))
+always_ends stands allows ends r program medium harts none closed start free each steps c runs =
+    each c (covers_run stands allows ends r (started program medium harts) c steps none closed start runs (λ before after h d is led. free (trace_in d.common) h))
 
 -- a step leads from what a state stands for to what the same state stands for, or is a request of a hart
 record StepsFrom {T : Type 0} (stands : T → List Event → Type 0) (r : ReachedView T) (n : ℕ) (c d : Config) (step : Step) : Type 0 where
@@ -203,9 +203,11 @@ steps_from stands r n c d step at steps = elim (stands_or_asks r.parts at.0.stat
 
 -- the request of a hart leads to the state that is noted
 asking_covers : {T : Type 0} (stands : T → List Event → Type 0) (allows : List Event → ℕ → Type 0) (r : ReachedView T) (next : List (List ℕ)) (n h : ℕ) (to : List ℕ) (c d : Config) →
-    AreAllTurns stands allows r next → CoversAt stands r n c → h < r.harts → slice_get next n ≡ Some to → AsksTo c h d → CoversAt stands r (slice_index_or to h 0) d
-asking_covers stands allows r next n h to c d all at few found asks =
-    ((all.turns.each n to found).turns at.0.state at.0.standing (met_at stands r n c at)).taken h few c d at.0.stands_as (all.free (trace_in c.common) h) asks
+    r.parts.claims ≡ [] → AreAllTurns stands allows r next → CoversAt stands r n c → h < r.harts → slice_get next n ≡ Some to → AsksTo c h d → CoversAt stands r (slice_index_or to h 0) d
+asking_covers stands allows r next n h to c d none all at few found asks =
+    let taken : IsTaken stands r at.0.standing h (slice_index_or to h 0) c d asks.request =
+    ((all.turns.each n to found).turns at.0.state at.0.standing (met_at stands r n c at)).taken h few c d at.0.stands_as (all.free (trace_in c.common) h) asks in
+    subst (λ (e : Config). CoversAt stands r (slice_index_or to h 0) e) (taken.none none) taken.at
 
 noted_at : {T : Type 0} (stands : T → List Event → Type 0) (allows : List Event → ℕ → Type 0) (r : ReachedView T) (next : List (List ℕ)) (n : ℕ) (c : Config) →
     AreAllTurns stands allows r next → CoversAt stands r n c → (to : List ℕ) × (slice_get next n ≡ Some to)
@@ -220,22 +222,22 @@ record IsOut {T : Type 0} (stands : T → List Event → Type 0) (r : ReachedVie
   pub out : LeadsOut next ends number → ⊥
 
 out_step : {T : Type 0} (stands : T → List Event → Type 0) (allows : List Event → ℕ → Type 0) (r : ReachedView T) (next : List (List ℕ)) (ends : List Bool) (c d : Config) (step : Step) →
-    AreAllTurns stands allows r next → IsOut stands r next ends c → StepsTo c step d → IsOut stands r next ends d
-out_step stands allows r next ends c d step all is steps = elim (steps_from stands r is.number c d step is.at steps) [
+    r.parts.claims ≡ [] → AreAllTurns stands allows r next → IsOut stands r next ends c → StepsTo c step d → IsOut stands r next ends d
+out_step stands allows r next ends c d step none all is steps = elim (steps_from stands r is.number c d step is.at steps) [
   | inl still ↦ record { number = is.number; at = still; out = is.out }
   | inr from ↦
       let to : (to : List ℕ) × (slice_get next is.number ≡ Some to) = noted_at stands allows r next is.number c all is.at in record {
         number = slice_index_or to.0 from.hart 0;
-        at = asking_covers stands allows r next is.number from.hart to.0 c d all is.at from.there to.1 from.asks;
+        at = asking_covers stands allows r next is.number from.hart to.0 c d none all is.at from.there to.1 from.asks;
         out = λ leads. is.out (LeadsOut.further is.number from.hart (slice_index_or to.0 from.hart 0) (record { to = to.0; found = to.1; few = from.few; is = refl }) leads);
       }
 ]
 
 out_run : {T : Type 0} (stands : T → List Event → Type 0) (allows : List Event → ℕ → Type 0) (r : ReachedView T) (next : List (List ℕ)) (ends : List Bool) (c d : Config) (steps : List Step) →
-    AreAllTurns stands allows r next → IsOut stands r next ends c → RunsTo c steps d → IsOut stands r next ends d
-out_run stands allows r next ends c d [] all is runs = subst (λ (e : Config). IsOut stands r next ends e) (sym runs) is
-out_run stands allows r next ends c d (step ∷ steps) all is runs =
-    out_run stands allows r next ends runs.0 d steps all (out_step stands allows r next ends c runs.0 step all is runs.1) runs.2
+    r.parts.claims ≡ [] → AreAllTurns stands allows r next → IsOut stands r next ends c → RunsTo c steps d → IsOut stands r next ends d
+out_run stands allows r next ends c d [] none all is runs = subst (λ (e : Config). IsOut stands r next ends e) (sym runs) is
+out_run stands allows r next ends c d (step ∷ steps) none all is runs =
+    out_run stands allows r next ends runs.0 d steps none all (out_step stands allows r next ends c runs.0 step none all is runs.1) runs.2
 
 -- the harts of a state have stopped if those have that it stands for
 parts_stopped : (parts : PartsView) (s : ProgramState) (c : Config) → StandsFor parts s c → HaveStopped c.harts → HavePartsStopped s.harts.items
@@ -244,11 +246,11 @@ parts_stopped parts s c stands stopped h part here =
     let same : part.state ≡ own.0 = stopped_itself parts c.common h part own.0 (stands.harts h part own.0 here own.1) (stopped h own.0 own.1) in
     subst (λ (t : HartState). t.status ≢ Running) (sym same) (stopped h own.0 own.1)
 
-no_way_out : {T : Type 0} (stands : T → List Event → Type 0) (allows : List Event → ℕ → Type 0) (r : ReachedView T) (next : List (List ℕ)) (n : ℕ) (c : Config) → AreAllTurns stands allows r next →
+no_way_out : {T : Type 0} (stands : T → List Event → Type 0) (allows : List Event → ℕ → Type 0) (r : ReachedView T) (next : List (List ℕ)) (n : ℕ) (c : Config) → r.parts.claims ≡ [] → AreAllTurns stands allows r next →
     HasNone r next n → CoversAt stands r n c → HasNoWayOut c
-no_way_out stands allows r next n c all none at steps end runs stopped =
+no_way_out stands allows r next n c unclaimed all none at steps end runs stopped =
     let is : IsOut stands r next none.marks c = record { number = n; at = at; out = none.leads } in
-    let last : IsOut stands r next none.marks end = out_run stands allows r next none.marks c end steps all is runs in
+    let last : IsOut stands r next none.marks end = out_run stands allows r next none.marks c end steps unclaimed all is runs in
     let met : IsMet r last.number last.at.0.state last.at.0.standing = met_at stands r last.number end last.at in
     let there : last.number < length r.states = slice_get_within r.states last.number met.numbers met.found in
     last.out (LeadsOut.here last.number ((none.ends.each last.number last.at.0.state last.at.0.standing there met).1
@@ -265,22 +267,22 @@ steps_covers stands r n (suc count) c d at goes =
     ]
 
 walk_covers : {T : Type 0} (stands : T → List Event → Type 0) (allows : List Event → ℕ → Type 0) (r : ReachedView T) (next : List (List ℕ)) (requests : List ℕ) (n : ℕ) (c d : Config) →
-    AreAllTurns stands allows r next → AreOfHarts r.harts requests → CoversAt stands r n c → GoesBy requests c d → CoversAt stands r (walked next n requests) d
-walk_covers stands allows r next [] n c d all harts at goes = steps_covers stands r n goes.0 c d at goes.1
-walk_covers stands allows r next (h ∷ requests) n c d all harts at goes =
+    r.parts.claims ≡ [] → AreAllTurns stands allows r next → AreOfHarts r.harts requests → CoversAt stands r n c → GoesBy requests c d → CoversAt stands r (walked next n requests) d
+walk_covers stands allows r next [] n c d none all harts at goes = steps_covers stands r n goes.0 c d at goes.1
+walk_covers stands allows r next (h ∷ requests) n c d none all harts at goes =
     let asking : GoesAsking h c goes.0 = goes.1 in
     let ready : CoversAt stands r n asking.ready = steps_covers stands r n asking.quiet.0 c asking.ready at asking.quiet.1 in
     let to : (to : List ℕ) × (slice_get next n ≡ Some to) = noted_at stands allows r next n c all at in
     let read : slice_index_or next n [] ≡ to.0 = get_or_from_slice_get next n to.0 [] to.1 in
     let few : h < r.harts = harts 0 0 (omega arith) in
-    let there : CoversAt stands r (slice_index_or to.0 h 0) goes.0 = asking_covers stands allows r next n h to.0 asking.ready goes.0 all ready few to.1 asking.asks in
-    walk_covers stands allows r next requests (slice_index_or (slice_index_or next n []) h 0) goes.0 d all (λ k x less. harts (suc k) x (omega (arith, less)))
+    let there : CoversAt stands r (slice_index_or to.0 h 0) goes.0 = asking_covers stands allows r next n h to.0 asking.ready goes.0 none all ready few to.1 asking.asks in
+    walk_covers stands allows r next requests (slice_index_or (slice_index_or next n []) h 0) goes.0 d none all (λ k x less. harts (suc k) x (omega (arith, less)))
     (subst (λ (list : List ℕ). CoversAt stands r (slice_index_or list h 0) goes.0) (sym read) there) goes.2
 
 pub leads_nowhere : {T : Type 0} (stands : T → List Event → Type 0) (allows : List Event → ℕ → Type 0) (r : ReachedView T) (next : List (List ℕ)) (requests : List ℕ) →
-    AreAllTurns stands allows r next → LeadToNone r next requests → LeadsNowhere stands r requests
-leads_nowhere stands allows r next requests all lead start at d goes =
-    no_way_out stands allows r next (walked next 0 requests) d all lead.none (walk_covers stands allows r next requests 0 start d all lead.harts at goes)
+    r.parts.claims ≡ [] → AreAllTurns stands allows r next → LeadToNone r next requests → LeadsNowhere stands r requests
+leads_nowhere stands allows r next requests none all lead start at d goes =
+    no_way_out stands allows r next (walked next 0 requests) d none all lead.none (walk_covers stands allows r next requests 0 start d none all lead.harts at goes)
 
 -- marks of ends, one more of them
 got_last : (marks : List Bool) (mark : Bool) → slice_get (marks ++ mark ∷ []) (length marks) ≡ Some mark

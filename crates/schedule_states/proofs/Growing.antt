@@ -1,6 +1,7 @@
 -- What holds of parts holds as they grow.
 use Rattle.std.proofs.Common.{◌≡◌, inl, inr, ℕ, ◌<◌, List, Some, length, slice_get, slice_index_or, refl, sym, ap, ◌∙◌, subst, arith}
-use Rattle.std.proofs.lemmas.Option.{get_or_from_slice_get, same_Some, slice_get-get_or}
+use Rattle.std.proofs.lemmas.Option.{get_or_from_slice_get, same_Some, slice_get-get_or, slice_get_within}
+use Rattle.bus.proofs.Places.{there_is}
 use Rattle.hart.specs.declared.need.Request.{Request}
 use Rattle.hart.specs.declared.need.Reply.{Reply}
 use Rattle.hart.specs.declared.state.HartState.{HartState}
@@ -21,6 +22,7 @@ pub grown_then : (old middle new : PartsView) → AreGrown old middle → AreGro
 grown_then old middle new a b = record {
   table = record { start = b.table.start ∙ a.table.start; grows = λ n s found. b.table.grows n s (a.table.grows n s found) };
   lists = λ n held found. b.lists n held (a.lists n held found);
+  claims = b.claims ∙ a.claims;
 }
 
 pub there_still : (old new : PartsView) (n : ℕ) → AreGrown old new → n < length old.lists → n < length new.lists
@@ -35,14 +37,14 @@ text_still middle new request lines before after grown same text = record {
       text.renewed h in (
         list.0,
         grown.lists after list.0 list.1,
-        ap (λ (t : TableView). text_of (memory_held (record { table = t; lists = new.lists }) list.0)) same ∙ list.2
-            ∙ sym (ap (λ (t : TableView). text_of (memory_held (record { table = t; lists = new.lists }) lines)) same),
+        ap (λ (t : TableView). text_of (memory_held (record { table = t; lists = new.lists; claims = new.claims }) list.0)) same ∙ list.2
+            ∙ sym (ap (λ (t : TableView). text_of (memory_held (record { table = t; lists = new.lists; claims = new.claims }) lines)) same),
       );
 }
 
 pub served_still : (old middle new : PartsView) (h : ℕ) (request : Request) (reply : Reply) (held lines : List HeldLine) → new.table ≡ middle.table →
     AreServed old middle h request reply held lines → AreServed old new h request reply held lines
-served_still old middle new h request reply held lines same served = subst (λ (t : TableView). AreServed old (record { table = t; lists = new.lists }) h request reply held lines)
+served_still old middle new h request reply held lines same served = subst (λ (t : TableView). AreServed old (record { table = t; lists = new.lists; claims = new.claims }) h request reply held lines)
     (sym same) (record { below = served.below; served = served.served })
 
 pub has_lists_after : (old new : PartsView) (s next : ProgramState) (h : ℕ) (own : HartPart) (request : Request) (reply : Reply) → AreGrown old new → HasLists old s →
@@ -80,4 +82,22 @@ moved_after h own request reply before after harts = record {
             let same : other.1.0 ≡ was = same_Some other.1.0 was (sym other.1.1 ∙ here) in
             (other.1.2.state ∙ ap (λ (p : HartPart). p.state) same, other.1.2.text ∙ ap (λ (p : HartPart). p.text) same)
       ];
+}
+
+pub moved_itself : (h : ℕ) (parts : List HartPart) → HaveMoved h parts parts
+moved_itself h parts = record {
+  count = refl;
+  others = λ g was part here there apart.
+      let same : part ≡ was = same_Some part was (sym there ∙ here) in
+      (ap (λ (p : HartPart). p.state) same, ap (λ (p : HartPart). p.text) same);
+}
+
+pub moved_then : (h : ℕ) (a b c : List HartPart) → HaveMoved h a b → HaveMoved h b c → HaveMoved h a c
+moved_then h a b c one two = record {
+  count = two.count ∙ one.count;
+  others = λ g was part here there apart.
+      let middle : (at : HartPart) × (slice_get b g ≡ Some at) = there_is b g (subst (λ (n : ℕ). g < n) (sym one.count) (slice_get_within a g was here)) in
+      let first : (middle.0.state ≡ was.state) × (middle.0.text ≡ was.text) = one.others g was middle.0 here middle.1 apart in
+      let second : (part.state ≡ middle.0.state) × (part.text ≡ middle.0.text) = two.others g middle.0 part middle.1 there apart in
+      (second.0 ∙ first.0, second.1 ∙ first.1);
 }

@@ -74,7 +74,7 @@ led_start allows start = record {
   keeps = λ before after h c is runs. absurd (none_in before after (Hart h) is);
 }
 
-led_step : (allows : List Event → ℕ → Type 0) (start c d : Config) (h : ℕ) → IsLed allows start c → allows (trace_in c.common) h → StepsTo c (Hart h) d →
+pub led_step : (allows : List Event → ℕ → Type 0) (start c d : Config) (h : ℕ) → IsLed allows start c → allows (trace_in c.common) h → StepsTo c (Hart h) d →
     IsLed allows start d
 led_step allows start c d h led may step = record {
   steps = led.steps ++ Hart h ∷ [];
@@ -105,7 +105,7 @@ pub steps_alone : (c : Config) (h : ℕ) (own next : HartState) → slice_get c.
 steps_alone c h own next here step = hart_makes c (with_hart c h next) h own here step.running
     (step.need, step.needs, meets_alone c h own next (fetched_by c h own.pc) step.need step.leaves)
 
-steps_asking : (c d : Config) (h : ℕ) → AsksTo c h d → StepsTo c (Hart h) d
+pub steps_asking : (c d : Config) (h : ℕ) → AsksTo c h d → StepsTo c (Hart h) d
 steps_asking c d h to = hart_makes c d h to.own to.here to.asks.running (Ask to.request, to.asks.needs, (to.instr, to.spelled, to.is))
 
 -- where the hart has run ahead to, behind register steps of its own
@@ -133,7 +133,7 @@ goes_ahead allows start parts s c h (suc n) own ahead led may stands here goes =
     (got_set c.harts h first.0 (slice_get_within c.harts h own here)) first.2 in
     record { ready = on.ready; led = on.led; still = on.still; stands = on.stands; here = on.here }
 
-text_read : (parts : PartsView) (number : ℕ) (text : Memory) → IsText parts number text → text_of (memory_held parts (slice_index_or parts.lists number [])) ≡ text
+pub text_read : (parts : PartsView) (number : ℕ) (text : Memory) → IsText parts number text → text_of (memory_held parts (slice_index_or parts.lists number [])) ≡ text
 text_read parts number text is =
     let list : slice_index_or parts.lists number [] ≡ is.held = get_or_from_slice_get parts.lists number is.held [] is.found in
     ap (λ (held : List HeldLine). text_of (memory_over parts.table.states held (memory_at parts.table.start))) list ∙ sym is.is
@@ -281,3 +281,4 @@ pub if_state : (found : Successor) (claim : Type 0) → claim → IfState found 
 if_state (successors.State next mark) claim is = is
 if_state successors.Stopped claim is = tt
 if_state successors.TooLong claim is = tt
+if_state (successors.Claimed line) claim is = tt

@@ -24,7 +24,7 @@ use Rattle.schedule_states.proofs.Media.{media_kept}
 use Rattle.schedule_states.proofs.Putting.{state_kept}
 use Rattle.schedule_states.specs.Contents.{MayHold}
 use Rattle.schedule_states.specs.Covering.{Covers, IsClosed, ReachedView}
-use Rattle.schedule_states.specs.Exploring.{IfAll, IfNoWayOut, IsAll, IsFound, LeadByHarts}
+use Rattle.schedule_states.specs.Exploring.{IfAll, IfNoWayOut, IsAll, IsFinal, IsFound, LeadByHarts}
 use Rattle.schedule_states.specs.Happening.{full_image}
 use Rattle.schedule_states.specs.HeldLines.{AreBelow, on_medium}
 use Rattle.schedule_states.specs.Images.{content_of, highest_in, image_from, image_in, line_in, others_of}
@@ -69,7 +69,7 @@ content_held start l p None bytes is may = elim ((is.now bytes).0 may) [
 ]
 
 -- so is what a power cut leaves of it
-content_left : (m : MemoryView) (memory : Memory) (p : List PersistenceStep) (k : ℕ → ℕ) → IsMemoryOf m.start m.states m.held memory p → IsWithin p k → (l : ℕ) →
+pub content_left : (m : MemoryView) (memory : Memory) (p : List PersistenceStep) (k : ℕ → ℕ) → IsMemoryOf m.start m.states m.held memory p → IsWithin p k → (l : ℕ) →
     (n : ℕ) × (n ≤ highest_in m l) × (l < length m.start.medium → line_after (line_at m.start.medium l) l (k l) p ≡ content_of (line_at m.start.medium l) (line_in m l) n)
 content_left m memory p k of bounds l = elim (cases_lt l (length m.start.medium)) [
   | inl there ↦
@@ -80,7 +80,7 @@ content_left m memory p k of bounds l = elim (cases_lt l (length m.start.medium)
   | inr past ↦ (0, omega arith, λ h. absurd (omega (arith, h, past)))
 ]
 
-same_lines : (m : MemoryView) (k n : ℕ → ℕ) (p : List PersistenceStep) (i : ℕ) (lines : List (List ℕ)) →
+pub same_lines : (m : MemoryView) (k n : ℕ → ℕ) (p : List PersistenceStep) (i : ℕ) (lines : List (List ℕ)) →
     ((l : ℕ) → l < length lines → line_after (get_or lines l []) (i + l) (k (i + l)) p ≡ content_of (get_or lines l []) (line_in m (i + l)) (n (i + l))) →
     lines_after i lines k p ≡ image_from m n i lines
 same_lines m k n p i [] same = refl
@@ -280,10 +280,10 @@ known_moment stands good r media moments more place moment kept there found are 
 
 -- whatever a schedule leads to
 pub all_good : {T : Type 0} (stands : T → List Event → Type 0) (allows : List Event → ℕ → Type 0) (good : List Event → List (List ℕ) → List (List ℕ) → Type 0) (ends : Status → Type 0)
-    (r : ReachedView T) (program : Sections) (medium : List (List ℕ)) (harts : ℕ) → r.parts.table.start.medium ≡ medium → Covers stands r (started program medium harts) →
+    (r : ReachedView T) (program : Sections) (medium : List (List ℕ)) (harts : ℕ) → r.parts.claims ≡ [] → r.parts.table.start.medium ≡ medium → Covers stands r (started program medium harts) →
     IsClosed stands allows ends r → AreGoodBelow stands good r (length r.states) → AlwaysGood stands allows good ends program medium harts
-all_good stands allows good ends r program medium harts same start closed are steps end runs keeps =
-    let covers : Covers stands r end = covers_run stands allows ends r (started program medium harts) end steps closed start runs keeps in
+all_good stands allows good ends r program medium harts none same start closed are steps end runs keeps =
+    let covers : Covers stands r end = covers_run stands allows ends r (started program medium harts) end steps none closed start runs keeps in
     let numbers : StateNumbers = covers.met.numbers in
     let within : covers.number < length r.states = slice_get_within r.states covers.number numbers covers.met.found in
     let held : List HeldLine = covers.stands_as.0.held in
@@ -326,3 +326,9 @@ nowhere_more (known.All states moments) one other so is = tt
 nowhere_more (known.Found stop requests) one other so is = tt
 nowhere_more (known.NoWayOut requests) one other so is = so requests.items is
 nowhere_more known.TooMany one other so is = tt
+
+pub final_leads : (explored : Explored) (harts : ℕ) (claim : List ℕ → Type 0) → IsFinal explored → LeadByHarts harts explored × IfNoWayOut explored claim
+final_leads (known.All states moments) harts claim final = (tt, tt)
+final_leads (known.Found stop requests) harts claim final = absurd final
+final_leads (known.NoWayOut requests) harts claim final = absurd final
+final_leads known.TooMany harts claim final = (tt, tt)

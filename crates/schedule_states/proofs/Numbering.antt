@@ -101,7 +101,7 @@ with_parts r hart_parts = record { parts = r.parts; hart_parts = hart_parts; sta
 
 pub numbered_parts : {T : Type 0} (r : ReachedView T) (hart_parts : List HartPart) → AreKept r.hart_parts hart_parts → AreNumbered r → AreNumbered (with_parts r hart_parts)
 numbered_parts r hart_parts kept are = numbered_kept r (with_parts r hart_parts) (record {
-  parts = record { table = record { start = refl; grows = λ n s found. found }; lists = λ n held found. found };
+  parts = record { table = record { start = refl; grows = λ n s found. found }; lists = λ n held found. found; claims = refl };
   hart_parts = kept;
   standings = λ n value found. found;
   states = λ n value found. found;

@@ -8,29 +8,16 @@ use Rattle.bus.proofs.Places.{read_else, read_set}
 use Rattle.machine.specs.Replies.{trace_in}
 use Rattle.machine.specs.Run.{Config}
 use Rattle.store_trace.specs.declared.event.Event.{Event}
-use Rattle.schedule_states.proofs.Closing.{met_before, same_harts, same_memory, same_standing}
-use Rattle.schedule_states.proofs.Covering.{stands_grown, stands_same}
+use Rattle.schedule_states.proofs.Closing.{covers_at_kept, met_before, same_harts, same_memory, same_standing, taken_kept}
+use Rattle.schedule_states.proofs.Covering.{stands_same}
 use Rattle.schedule_states.proofs.Looking.{each_pushed, within_kept}
-use Rattle.schedule_states.proofs.Numbering.{lists_of_met, met_kept}
-use Rattle.schedule_states.specs.Covering.{IsMet, ReachedView, StandsAs}
-use Rattle.schedule_states.specs.Ending.{AreTurns, AreTurnsAt, AreTurnsBelow, CoversAt, IsTakenTo, IsTurn, IsWayTo, LeadsTo}
+use Rattle.schedule_states.proofs.Numbering.{lists_of_met}
+use Rattle.schedule_states.specs.Covering.{IsMet, IsTaken, ReachedView, StandsAs}
+use Rattle.schedule_states.specs.Ending.{AreTurns, AreTurnsAt, AreTurnsBelow, IsTakenTo, IsTurn, IsWayTo, LeadsTo}
 use Rattle.schedule_states.specs.Reaching.{AreNumbered, HaveGrown, IsClosedFor, WereBefore}
 use Rattle.schedule_states.specs.Successors.{HasLists}
 use Rattle.schedule_states.specs.Ways.{AreInside}
 use Rattle.schedule_states.specs.declared.program_state.ProgramState.{ProgramState}
-
--- what the state of a number stands for
-pub covers_at_kept : {T : Type 0} (stands : T → List Event → Type 0) (old new : ReachedView T) (n : ℕ) (d : Config) → HaveGrown old new → CoversAt stands old n d → CoversAt stands new n d
-covers_at_kept stands old new n d grown at = (
-  record {
-    state = at.0.state;
-    standing = at.0.standing;
-    number = at.0.number;
-    met = met_kept old new at.0.number at.0.state at.0.standing grown at.0.met;
-    stands_as = (stands_grown old.parts new.parts at.0.state d grown.parts at.0.stands_as.0, at.0.stands_as.1);
-  },
-  at.1,
-)
 
 way_kept : {T : Type 0} (stands : T → List Event → Type 0) (old new : ReachedView T) (s : ProgramState) (t : T) (n : ℕ) → HasLists old.parts s → HaveGrown old new →
     WereBefore old.parts new.parts → IsWayTo stands old s t n → IsWayTo stands new s t n
@@ -44,7 +31,7 @@ way_kept stands old new s t n lists grown before way = record {
 pub turns_kept : {T : Type 0} (stands : T → List Event → Type 0) (allows : List Event → ℕ → Type 0) (old new : ReachedView T) (s : ProgramState) (t : T) (count : ℕ) (to : List ℕ) →
     HasLists old.parts s → HaveGrown old new → WereBefore old.parts new.parts → AreTurns stands allows old s t count to → AreTurns stands allows new s t count to
 turns_kept stands allows old new s t count to lists grown before turns = record {
-  taken = λ h few c d stands_as may asks. covers_at_kept stands old new (slice_index_or to h 0) d grown
+  taken = λ h few c d stands_as may asks. taken_kept stands old new t h (slice_index_or to h 0) c d asks.request grown
       (turns.taken h few c d (before s c lists stands_as.0, stands_as.1) may asks);
   ways = λ h few. way_kept stands old new s t (slice_index_or to h 0) lists grown before (turns.ways h few);
 }
@@ -104,7 +91,7 @@ turns_more stands allows r s t count n next to there met turn turns =
 -- what the turns lead to is covered
 pub closed_by_turns : {T : Type 0} (stands : T → List Event → Type 0) (allows : List Event → ℕ → Type 0) (r : ReachedView T) (s : ProgramState) (t : T) (count : ℕ) (to : List ℕ) →
     AreTurns stands allows r s t count to → IsClosedFor stands allows r s t count
-closed_by_turns stands allows r s t count to turns h few c d stands_as may asks = (turns.taken h few c d stands_as may asks).0
+closed_by_turns stands allows r s t count to turns h few c d stands_as may asks = (slice_index_or to h 0, turns.taken h few c d stands_as may asks)
 
 -- by the number of a state, whatever its parts are called
 same_stands : {T : Type 0} (stands : T → List Event → Type 0) (r : ReachedView T) (n : ℕ) (s u : ProgramState) (t v : T) (c : Config) → IsMet r n s t → IsMet r n u v →
@@ -119,7 +106,8 @@ pub turns_at : {T : Type 0} (stands : T → List Event → Type 0) (allows : Lis
 turns_at stands allows r n s t to met turns = record {
   there = λ h few. (turns.ways h few).there;
   turns = λ u v other. record {
-    taken = λ h few c d stands_as may asks. turns.taken h few c d (same_stands stands r n s u t v c met other stands_as) may asks;
+    taken = λ h few c d stands_as may asks. subst (λ (x : _). IsTaken stands r x h (slice_index_or to h 0) c d asks.request) (sym (same_standing r n s u t v met other))
+        (turns.taken h few c d (same_stands stands r n s u t v c met other stands_as) may asks);
     ways = λ h few. record {
       there = (turns.ways h few).there;
       leads = λ c stands_as. (turns.ways h few).leads c (same_stands stands r n s u t v c met other stands_as);

@@ -9,7 +9,7 @@ use Rattle.machine.specs.declared.schedule.items.Step.{Step}
 use Rattle.machine.specs.declared.schedule.items.Step.TheVariants.{Hart}
 use Rattle.program.specs.Sections.{Sections}
 use Rattle.store_trace.specs.declared.event.Event.{Event}
-use Rattle.schedule_states.specs.Covering.{Covers, IsMet, ReachedView, StandsAs}
+use Rattle.schedule_states.specs.Covering.{CoversAt, IsMet, IsTaken, ReachedView, StandsAs}
 use Rattle.schedule_states.specs.States.{AsksTo}
 use Rattle.schedule_states.specs.Ways.{IsMarked}
 use Rattle.schedule_states.specs.declared.program_state.HartPart.{HartPart}
@@ -62,10 +62,6 @@ GoesBy (h ∷ harts) c d = (middle : Config) × GoesAsking h c middle × GoesBy 
 abbrev pub IsStuckBehind : List ℕ → Config → Type 0
 IsStuckBehind harts c = (d : Config) → GoesBy harts c d → HasNoWayOut d
 
--- the state of this number stands for it
-abbrev pub CoversAt : {T : Type 0} → (T → List Event → Type 0) → ReachedView T → ℕ → Config → Type 0
-CoversAt stands r n c = (covers : Covers stands r c) × (covers.number ≡ n)
-
 -- some schedule leads from c to what state n stands for
 pub record LeadsTo {T : Type 0} (stands : T → List Event → Type 0) (r : ReachedView T) (c : Config) (n : ℕ) : Type 0 where
   pub steps : List Step
@@ -78,9 +74,9 @@ pub record IsWayTo {T : Type 0} (stands : T → List Event → Type 0) (r : Reac
   pub there : n < length r.states
   pub leads : (c : Config) → StandsAs stands r.parts s t c → LeadsTo stands r c n
 
--- what the request of hart h leads to from the state, if the hart may make it, state n stands for
+-- what the request of hart h leads to from the state, if the hart may make it, is taken to state n
 abbrev pub IsTakenTo : {T : Type 0} → (T → List Event → Type 0) → (List Event → ℕ → Type 0) → ReachedView T → ProgramState → T → ℕ → ℕ → Type 0
-IsTakenTo stands allows r s t h n = (c d : Config) → StandsAs stands r.parts s t c → allows (trace_in c.common) h → AsksTo c h d → CoversAt stands r n d
+IsTakenTo stands allows r s t h n = (c d : Config) → StandsAs stands r.parts s t c → allows (trace_in c.common) h → (asks : AsksTo c h d) → IsTaken stands r t h n c d asks.request
 
 -- the turn of hart h leads from the state to this one; None where the hart makes no request, or may make none
 abbrev pub IsTurn : {T : Type 0} → (T → List Event → Type 0) → (List Event → ℕ → Type 0) → ReachedView T → ProgramState → T → ℕ → Option ℕ → Type 0

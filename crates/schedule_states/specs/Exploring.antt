@@ -1,9 +1,10 @@
 -- What is known of the states of a program.
-use Rattle.std.specs.Prelude.{◌≡◌, ℕ, List, Bool, true}
+use Rattle.std.specs.Prelude.{◌≡◌, ◌⊎◌, ℕ, List, [], Bool, true}
 use Rattle.std.specs.Global.{Vec}
 use Rattle.store_trace.specs.declared.event.Event.{Event}
 use Rattle.schedule_states.specs.Ending.{AnyMayGo}
 use Rattle.schedule_states.specs.Leads.{AreOfHarts}
+use Rattle.schedule_states.specs.declared.claims.ClaimedLine.{ClaimedLine}
 use Rattle.schedule_states.specs.declared.exploring.Explored.{Explored}
 use Rattle.schedule_states.specs.declared.exploring.Explored.TheVariants as known
 use Rattle.schedule_states.specs.declared.reached.Stop.{Stop}
@@ -36,6 +37,17 @@ LeadByHarts harts known.TooMany = Unit {0}
 -- the search goes no further from a state to which such requests lead
 abbrev pub IsFound : ℕ → Explored → Type 0
 IsFound harts explored = (stop : Stop) × (requests : Vec ℕ) × (explored ≡ known.Found stop requests) × AreOfHarts harts requests.items
+
+-- all states were judged, or there are too many
+abbrev pub IsFinal : Explored → Type 0
+IsFinal (known.All states moments) = Unit {0}
+IsFinal (known.Found stop requests) = ⊥
+IsFinal (known.NoWayOut requests) = ⊥
+IsFinal known.TooMany = Unit {0}
+
+-- Lines may be claimed where any hart may always go, and images are judged without a look at what loads find; else nothing is claimed.
+abbrev pub MayReduce : (List Event → ℕ → Type 0) → Type 0 → List ClaimedLine → Type 0
+MayReduce allows ignored claims = (claims ≡ []) ⊎ (AnyMayGo allows × ignored)
 
 -- a search asks for ways out where that is asked for, and only where any hart may always go
 pub record IsAsked (demanded : Type 0) (allows : List Event → ℕ → Type 0) (asked : Bool) : Type 0 where

@@ -9,6 +9,7 @@ use Rattle.store_trace.specs.History.{history}
 use Rattle.store_trace.specs.Image.{image}
 use Rattle.store_trace.specs.Stores.{stores}
 use Rattle.store_trace.specs.declared.event.Event.{Event}
+use Rattle.schedule_states.specs.Claims.{KeepsClaims, claim_in}
 use Rattle.schedule_states.specs.Covering.{IsMet, ReachedView, StandsAs}
 use Rattle.schedule_states.specs.Images.{image_in}
 use Rattle.schedule_states.specs.Memories.{MemoryView}
@@ -69,3 +70,7 @@ AreLed stands allows r = (n : ℕ) → n < length r.states → IsLedTo stands al
 -- hart h of the state stands at a request
 abbrev pub IsAtRequest : PartsView → ProgramState → ℕ → Type 0
 IsAtRequest parts s h = (asking : Asking) × (asking.hart ≡ h) × IsAskingOf parts s asking
+
+-- at one that keeps to the claims
+abbrev pub IsAtFitRequest : PartsView → ProgramState → ℕ → Type 0
+IsAtFitRequest parts s h = (at : IsAtRequest parts s h) × KeepsClaims (claim_in parts.claims) h at.0.request

@@ -51,6 +51,10 @@ IsGoodState stands good r n = (numbers : StateNumbers) → slice_get r.states n 
 abbrev pub AreGoodBelow : {T : Type 0} → (T → List Event → Type 0) → (List Event → List (List ℕ) → List (List ℕ) → Type 0) → ReachedView T → ℕ → Type 0
 AreGoodBelow stands good r count = (n : ℕ) → n < count → IsGoodState stands good r n
 
+-- whether an image is good doesn't depend on what loads find
+abbrev pub IgnoresFull : (List Event → List (List ℕ) → List (List ℕ) → Type 0) → Type 0
+IgnoresFull good = (events : List Event) (full other image : List (List ℕ)) → good events full image → good events other image
+
 -- whatever a power cut leaves is good
 abbrev pub LeavesGood : (List Event → List (List ℕ) → List (List ℕ) → Type 0) → List (List ℕ) → List Event → Type 0
 LeavesGood good medium events = (k : ℕ → ℕ) → IsWithin (history events) k → good events (full_image medium events) (image medium k (history events))

@@ -1,4 +1,6 @@
 pub mod Ahead
+pub mod Behind
+pub mod Claims
 pub mod Contents
 pub mod Covering
 pub mod Ending
@@ -14,8 +16,10 @@ pub mod Marks
 pub mod Media
 pub mod Memories
 pub mod Numbers
+pub mod Persisting
 pub mod Reaching
 pub mod Requests
+pub mod Seen
 pub mod StartLines
 pub mod States
 pub mod Successors

@@ -3,7 +3,7 @@ use Rattle.std.specs.Prelude.{◌≡◌, ◌<◌, ◌≤◌, ℕ, List, [], Opti
 use Rattle.machine.specs.Replies.{trace_in}
 use Rattle.machine.specs.Run.{Config}
 use Rattle.store_trace.specs.declared.event.Event.{Event}
-use Rattle.schedule_states.specs.Covering.{Covers, ReachedView, StandsAs}
+use Rattle.schedule_states.specs.Covering.{IsTaken, ReachedView, StandsAs}
 use Rattle.schedule_states.specs.Marks.{IsMarkedBy}
 use Rattle.schedule_states.specs.Numbers.{AreKept}
 use Rattle.schedule_states.specs.States.{AreGrown, AsksTo, PartsView, StandsFor}
@@ -35,9 +35,10 @@ pub record HaveGrown {T : Type 0} (old new : ReachedView T) : Type 0 where
 abbrev pub WereBefore : PartsView → PartsView → Type 0
 WereBefore old new = (s : ProgramState) (c : Config) → HasLists old s → StandsFor new s c → StandsFor old s c
 
--- what a request of a hart leads to from the state, if the hart may make it, is covered
+-- what a request of a hart leads to from the state, if the hart may make it, is taken to one of the states
 abbrev pub IsClosedBy : {T : Type 0} → (T → List Event → Type 0) → (List Event → ℕ → Type 0) → ReachedView T → ProgramState → T → ℕ → Type 0
-IsClosedBy stands allows r s t h = (c d : Config) → StandsAs stands r.parts s t c → allows (trace_in c.common) h → AsksTo c h d → Covers stands r d
+IsClosedBy stands allows r s t h = (c d : Config) → StandsAs stands r.parts s t c → allows (trace_in c.common) h →
+    (asks : AsksTo c h d) → (n : ℕ) × IsTaken stands r t h n c d asks.request
 
 -- so of each of the first harts
 abbrev pub IsClosedFor : {T : Type 0} → (T → List Event → Type 0) → (List Event → ℕ → Type 0) → ReachedView T → ProgramState → T → ℕ → Type 0

@@ -17,15 +17,17 @@ use Rattle.schedule_states.specs.HeldLines.{AreBelow}
 use Rattle.schedule_states.specs.Memories.{IsKept, IsMemoryOf, TableView, memory_over}
 use Rattle.schedule_states.specs.Requests.{is_reserved}
 use Rattle.schedule_states.specs.StartLines.{memory_at}
+use Rattle.schedule_states.specs.declared.claims.ClaimedLine.{ClaimedLine}
 use Rattle.schedule_states.specs.declared.held_lines.HeldLine.{HeldLine}
 use Rattle.schedule_states.specs.declared.line_state.LineState.{LineState}
 use Rattle.schedule_states.specs.declared.program_state.HartPart.{HartPart}
 use Rattle.schedule_states.specs.declared.program_state.ProgramState.{ProgramState}
 
--- what states have in common: the lines by the numbers of their states, and lists of held lines by their numbers
+-- what states have in common: the lines by the numbers of their states, lists of held lines by their numbers, and what is claimed of lines
 pub record PartsView : Type 0 where
   pub table : TableView
   pub lists : List (List HeldLine)
+  pub claims : List ClaimedLine
 
 -- each list holds lines by numbers of states that are there, and the first one holds none
 pub record AreLists (states : List LineState) (lists : List (List HeldLine)) : Type 0 where
@@ -36,6 +38,7 @@ pub record AreLists (states : List LineState) (lists : List (List HeldLine)) : T
 pub record AreGrown (old new : PartsView) : Type 0 where
   pub table : IsKept old.table new.table
   pub lists : (n : ℕ) (held : List HeldLine) → slice_get old.lists n ≡ Some held → slice_get new.lists n ≡ Some held
+  pub claims : new.claims ≡ old.claims
 
 -- the text of the list of this number
 pub record IsText (parts : PartsView) (number : ℕ) (text : Memory) : Type 0 where

@@ -1,5 +1,5 @@
 -- What comes of a state by a request of one of its harts.
-use Rattle.std.specs.Prelude.{◌≡◌, ◌≢◌, ◌⊎◌, ◌<◌, ◌++◌, ℕ, true, false, List, [], All, Some, None, length, slice_get, slice_index_or}
+use Rattle.std.specs.Prelude.{Option, ◌≡◌, ◌≢◌, ◌⊎◌, ◌<◌, ◌++◌, ℕ, true, false, List, [], All, Some, None, length, slice_get, slice_index_or}
 use Rattle.bus.specs.Alone.{Asks}
 use Rattle.hart.specs.Effect.{answered, start}
 use Rattle.hart.specs.Needs.{IsSpelledBy}
@@ -12,12 +12,15 @@ use Rattle.machine.specs.declared.shared_memory.history.Entry.TheVariants.{Asked
 use Rattle.machine.specs.Run.{Config, fetched}
 use Rattle.reservation.specs.Reserved.{Call, is_reserved as is_reserved_by}
 use Rattle.schedule_states.specs.Ahead.{ComesAlone}
+use Rattle.schedule_states.specs.Behind.{GoesOwnBy, IsFit}
+use Rattle.schedule_states.specs.Claims.{IsLocal, claim_in}
 use Rattle.schedule_states.specs.HeldLines.{AreBelow}
 use Rattle.line_memory.specs.Memory.{Memory}
 use Rattle.machine.specs.Histories.{memory_after}
-use Rattle.machine.specs.Replies.{events_of, replied, trace_in}
+use Rattle.machine.specs.Replies.{events_of, replied, reply_after, trace_in}
 use Rattle.store_trace.specs.History.{history}
 use Rattle.store_trace.specs.declared.crash_model.step.PersistenceStep.{PersistenceStep}
+use Rattle.store_trace.specs.declared.event.Event.{Event}
 use Rattle.schedule_states.specs.Marks.{IsMarkedBy}
 use Rattle.schedule_states.specs.Memories.{IsMemoryOf, memory_over}
 use Rattle.schedule_states.specs.Requests.{is_reserved}
@@ -73,14 +76,52 @@ abbrev pub IfState : Successor → (ProgramState → Type 0) → Type 0
 IfState (successors.State next mark) claim = claim next
 IfState successors.Stopped claim = Unit {0}
 IfState successors.TooLong claim = Unit {0}
+IfState (successors.Claimed line) claim = Unit {0}
 
--- what comes of a state by the request of a hart: what the state stands for comes to what the next state stands for, with this mark, if it
+-- what comes of a state by the request of a hart alone: what the state stands for comes to what the next state stands for, with this mark, if it
 -- sets one; a hart that has stopped makes none
 abbrev pub IsSuccessor : PartsView → PartsView → ProgramState → ℕ → Successor → Type 0
 IsSuccessor old new s h (successors.State next mark) = (c d : Config) → StandsFor old s c → AsksTo c h d →
     StandsFor new next d × IsMarkedBy mark (trace_in c.common) (trace_in d.common)
 IsSuccessor old new s h successors.Stopped = (c d : Config) → StandsFor old s c → ¬ AsksTo c h d
 IsSuccessor old new s h successors.TooLong = Unit {0}
+IsSuccessor old new s h (successors.Claimed line) = Unit {0}
+
+-- it isn't known what comes of the state
+abbrev pub IsUnknown : Successor → Type 0
+IsUnknown (successors.State next mark) = ⊥
+IsUnknown successors.Stopped = ⊥
+IsUnknown successors.TooLong = Unit {0}
+IsUnknown (successors.Claimed line) = Unit {0}
+
+-- A request of hart h from c leads to d: it keeps to the claims, and steps of the hart that are its own affair lead on to what the next state
+-- stands for. It sets this mark, if it sets one.
+pub record IsTurned (old new : PartsView) (h : ℕ) (next : ProgramState) (mark : Option Event) (c d : Config) (request : Request) : Type 0 where
+  pub fits : IsFit (claim_in old.claims) h request
+  pub steps : ℕ
+  pub end : Config
+  pub goes : GoesOwnBy (claim_in old.claims) h steps d end
+  pub none : old.claims ≡ [] → end ≡ d
+  pub stands : StandsFor new next end
+  pub marked : (events : List Event) → IsMarkedBy mark events (events ++ events_of h request (reply_after c.common h request))
+
+-- what comes of a state by the request of a hart, and by those behind it that are the hart's own affair
+abbrev pub IsTurnOf : PartsView → PartsView → ProgramState → ℕ → Successor → Type 0
+IsTurnOf old new s h (successors.State next mark) = (c d : Config) → StandsFor old s c → (asks : AsksTo c h d) → IsTurned old new h next mark c d asks.request
+IsTurnOf old new s h successors.Stopped = (c d : Config) → StandsFor old s c → ¬ AsksTo c h d
+IsTurnOf old new s h successors.TooLong = Unit {0}
+IsTurnOf old new s h (successors.Claimed line) = Unit {0}
+
+-- steps of hart h that are its own affair lead from what the state stands for to what the next one stands for
+pub record HasGoneOn (old new : PartsView) (h : ℕ) (next : ProgramState) (c : Config) : Type 0 where
+  pub steps : ℕ
+  pub end : Config
+  pub goes : GoesOwnBy (claim_in old.claims) h steps c end
+  pub none : old.claims ≡ [] → end ≡ c
+  pub stands : StandsFor new next end
+
+abbrev pub IsSettled : PartsView → PartsView → ProgramState → ℕ → ProgramState → Type 0
+IsSettled old new s h next = (c : Config) → StandsFor old s c → HasGoneOn old new h next c
 
 -- the memory that a list of lines holds over the start
 abbrev pub memory_held : PartsView → List HeldLine → Memory
@@ -116,6 +157,10 @@ pub record IsAskingOf (parts : PartsView) (s : ProgramState) (asking : Asking) :
   pub asks : Asks (text_of (memory_held parts (slice_index_or parts.lists asking.part.text []))) asking.part.state asking.request
   pub spelled : IsSpelledBy (fetched (text_of (memory_held parts (slice_index_or parts.lists asking.part.text []))) asking.part.state.pc) asking.instr
   pub request : IsRequest asking.request
+
+-- the next request of hart h, which is its own affair
+abbrev pub IsOwnRequest : PartsView → ProgramState → ℕ → Asking → Type 0
+IsOwnRequest parts s h asking = (asking.hart ≡ h) × IsAskingOf parts s asking × IsLocal (claim_in parts.claims) h asking.request
 
 -- the part of hart h at the start: the hart ahead of its start, with nothing reserved and the text of the start
 pub record IsStartPart (parts : PartsView) (h : ℕ) (part : HartPart) : Type 0 where

@@ -2,8 +2,8 @@
 use Rattle.std.specs.Prelude.{ℕ, Bool, List, length}
 use Rattle.machine.specs.Run.{Config}
 use Rattle.store_trace.specs.declared.event.Event.{Event}
-use Rattle.schedule_states.specs.Covering.{Covers, ReachedView}
-use Rattle.schedule_states.specs.Ending.{AnyMayGo, AreEnds, AreTurnsBelow, CanEnd, CoversAt, IsStuckBehind}
+use Rattle.schedule_states.specs.Covering.{Covers, CoversAt, ReachedView}
+use Rattle.schedule_states.specs.Ending.{AnyMayGo, AreEnds, AreTurnsBelow, CanEnd, IsStuckBehind}
 use Rattle.schedule_states.specs.Leads.{AreOfHarts}
 use Rattle.schedule_states.specs.Ways.{LeadsOut, walked}
 

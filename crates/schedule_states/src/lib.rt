@@ -4,7 +4,9 @@
 #![tactic(auto)]
 
 mod ahead;
+mod claims;
 mod exploring;
+mod guessing;
 mod held_lines;
 mod laws;
 mod leads;

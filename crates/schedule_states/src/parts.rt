@@ -9,14 +9,15 @@ ghost use Rattle.schedule_states.specs.Ahead.{ComesAlone, IsNext};
 ghost use Rattle.schedule_states.specs.HeldLines.{AreBelow};
 ghost use Rattle.schedule_states.specs.Requests.{is_reserved};
 ghost use Rattle.schedule_states.specs.States.{AreGrown, AreLists, StandsFor};
-ghost use Rattle.schedule_states.specs.Successors.{AreServed, HasLists, HaveMoved, IfState, IsAskingOf, IsStartPart, IsSuccessor, IsTextAfter, memory_held};
+ghost use Rattle.schedule_states.specs.Successors.{AreServed, HasLists, HaveMoved, IfState, IsAskingOf, IsOwnRequest, IsSettled, IsStartPart, IsSuccessor, IsTextAfter, IsTurnOf, IsUnknown, memory_held};
 ghost use Rattle.machine.specs.Histories.{text_of};
 ghost use Rattle.machine.specs.Run.{fetched, started};
-ghost use Rattle.schedule_states.specs.Happening.{IsAtRequest};
+ghost use Rattle.schedule_states.specs.Happening.{IsAtFitRequest, IsAtRequest};
 ghost use Rattle.schedule_states.specs.Memories.{memory_over};
 ghost use Rattle.schedule_states.specs.StartLines.{memory_at};
 
-use crate::ahead::{Next, Text, next_of, run_ahead};
+use crate::ahead::{MOST_STEPS, Next, Text, next_of, run_ahead};
+use crate::claims::{ClaimedLine, is_local, keeps, line_of};
 use crate::held_lines::HeldLine;
 use crate::line_table::LineTable;
 use crate::memory_lists::MemoryLists;
@@ -42,6 +43,8 @@ pub struct Parts<'a> {
     lists: MemoryLists,
     /// The text at the start, decoded.
     text: TextCopy,
+    /// What is claimed of lines.
+    claims: &'a [ClaimedLine],
 }
 
 impl<'a> Model for Parts<'a> {
@@ -53,21 +56,23 @@ impl<'a> Model for Parts<'a> {
 
     ghost Value = { PartsView };
 
-    ghost view = { λ p. record { table = p.lines; lists = p.lists } };
+    ghost view = { λ p. record { table = p.lines; lists = p.lists; claims = p.claims.now } };
 
     ghost invariant = { λ p. AreLists p.lines.states p.lists × (text_bytes p.text ≡ text_of (memory_at p.lines.start)) };
 }
 
 impl<'a> Parts<'a> {
-    /// Of no state yet.
+    /// Of no state yet, where this is claimed of lines.
     pub fn new(
         alloc: Global,
         program: &'a Program,
         medium: &'a Medium,
+        claims: &'a [ClaimedLine],
     ) -> Result<Parts<'a>, AllocError>
         ensures program { IfOk result (λ parts. parts.table.start.program ≡ program.now) }
         ensures medium { IfOk result (λ parts. parts.table.start.medium ≡ medium.now) }
         ensures empty { IfOk result (λ parts. slice_get parts.lists 0 ≡ Some []) }
+        ensures claims { IfOk result (λ parts. parts.claims ≡ claims.now) }
     {
         let Ok(start) = StartLines::new(alloc, program, medium) else {
             return Err(AllocError);
@@ -81,6 +86,7 @@ impl<'a> Parts<'a> {
             lines: LineTable::new(alloc, start),
             lists,
             text,
+            claims,
         })
     }
 
@@ -145,7 +151,7 @@ impl<'a> Parts<'a> {
         let _ = &self.lists;
     }
 
-    /// What comes of a state by the next request of a hart.
+    /// What comes of a state by the next request of a hart, and by those behind it that are the hart's own affair.
     pub fn after_request(
         &mut self,
         alloc: Global,
@@ -155,8 +161,97 @@ impl<'a> Parts<'a> {
         requires there { hart < length state.now.harts.items }
         requires few { length state.now.harts.items ≤ 8 }
         requires lists { HasLists self.old state.now }
-        ensures successor { IfOk result (IsSuccessor self.old self.new state.now hart) }
+        ensures turn { IfOk result (IsTurnOf self.old self.new state.now hart) }
         ensures asks { IfOk result (λ found. IfState found (λ next. IsAtRequest self.old state.now hart)) }
+        ensures lists { IfOk result (λ found. IfState found (HasLists self.new)) }
+        ensures harts { IfOk result (λ found. IfState found (λ next. HaveMoved hart state.now.harts.items next.harts.items)) }
+        ensures grown { AreGrown self.old self.new }
+    {
+        match self.after_one(alloc, state, hart)? {
+            Successor::State(next, mark) => match self.settled(alloc, next, hart)? {
+                Some(settled) => Ok(Successor::State(settled, mark)),
+                None => Ok(Successor::TooLong),
+            },
+            Successor::Stopped => Ok(Successor::Stopped),
+            Successor::TooLong => Ok(Successor::TooLong),
+            Successor::Claimed(line) => Ok(Successor::Claimed(line)),
+        }
+    }
+
+    /// A state after the next requests of a hart that are its own affair; None where they are too many.
+    fn settled(
+        &mut self,
+        alloc: Global,
+        state: ProgramState,
+        hart: u32,
+    ) -> Result<Option<ProgramState>, AllocError>
+        requires there { hart < length state.harts.items }
+        requires few { length state.harts.items ≤ 8 }
+        requires lists { HasLists self.old state }
+        ensures settled { IfOk result (λ found. IfSome found (IsSettled self.old self.new state hart)) }
+        ensures lists { IfOk result (λ found. IfSome found (HasLists self.new)) }
+        ensures harts { IfOk result (λ found. IfSome found (λ next. HaveMoved hart state.harts.items next.harts.items)) }
+        ensures grown { AreGrown self.old self.new }
+    {
+        let mut at = state;
+        for _made in 0..MOST_STEPS {
+            let Some(asking) = self.own_request(&at, hart) else {
+                return Ok(Some(at));
+            };
+            let Successor::State(next, _mark) = self.serve(alloc, &at, &asking)? else {
+                return Ok(None);
+            };
+            at = next;
+        }
+        Ok(None)
+    }
+
+    /// The next request of a hart of a state, where that is its own affair.
+    fn own_request(&self, state: &ProgramState, hart: u32) -> Option<Asking>
+        requires there { hart < length state.now.harts.items }
+        requires few { length state.now.harts.items ≤ 8 }
+        requires lists { HasLists self.now state.now }
+        ensures { IfSome result (IsOwnRequest self.now state.now hart) }
+    {
+        if self.claims.is_empty() {
+            return None;
+        }
+        let part = state.harts[hart as usize];
+        match self.next_of(part.text, part.state)? {
+            Next::Asks(instr, request) if is_local(self.claims, hart, request) => Some(Asking {
+                hart,
+                part,
+                instr,
+                request,
+            }),
+            _ => None,
+        }
+    }
+
+    /// The next request of a hart of a state; None where it has stopped, or runs on for too long.
+    pub fn request_of(&self, state: &ProgramState, hart: u32) -> Option<Request>
+        requires there { hart < length state.now.harts.items }
+        requires lists { HasLists self.now state.now }
+    {
+        let part = state.harts[hart as usize];
+        match self.next_of(part.text, part.state)? {
+            Next::Asks(_instr, request) => Some(request),
+            Next::Stopped | Next::TooLong => None,
+        }
+    }
+
+    /// What comes of a state by the next request of a hart alone.
+    fn after_one(
+        &mut self,
+        alloc: Global,
+        state: &ProgramState,
+        hart: u32,
+    ) -> Result<Successor, AllocError>
+        requires there { hart < length state.now.harts.items }
+        requires few { length state.now.harts.items ≤ 8 }
+        requires lists { HasLists self.old state.now }
+        ensures successor { IfOk result (IsSuccessor self.old self.new state.now hart) }
+        ensures asks { IfOk result (λ found. IfState found (λ next. IsAtFitRequest self.old state.now hart)) }
         ensures lists { IfOk result (λ found. IfState found (HasLists self.new)) }
         ensures harts { IfOk result (λ found. IfState found (λ next. HaveMoved hart state.now.harts.items next.harts.items)) }
         ensures grown { AreGrown self.old self.new }
@@ -167,6 +262,9 @@ impl<'a> Parts<'a> {
         };
         match next {
             Next::Asks(instr, request) => {
+                if !keeps(self.claims, hart, request) {
+                    return Ok(broken_by(request));
+                }
                 let asking = Asking {
                     hart,
                     part,
@@ -352,6 +450,16 @@ impl<'a> Parts<'a> {
         let third = u32::from(memory.byte(pc + 2)?);
         let fourth = u32::from(memory.byte(pc + 3)?);
         Some(first + 256 * (second + 256 * (third + 256 * fourth)))
+    }
+}
+
+/// What comes of a state by a request that breaks what is claimed of its line.
+fn broken_by(request: Request) -> Successor
+    ensures { IsUnknown result }
+{
+    match line_of(request) {
+        Some(line) => Successor::Claimed(line),
+        None => Successor::TooLong,
     }
 }
 

@@ -3,9 +3,9 @@
 ghost use Rattle.std.specs.Prelude.{◌≡◌, ◌≢◌, ◌⊎◌, ◌<◌, ◌≤◌, ℕ, [], false, true, length, slice_get, None, Some, IfNone, IfOk, IfSome};
 ghost use Rattle.hart.specs.declared.state.Status.TheVariants.{Running};
 ghost use Rattle.machine.specs.Run.{started};
-ghost use Rattle.schedule_states.specs.Covering.{IsClosedAt, IsMet, PartsEndWell};
+ghost use Rattle.schedule_states.specs.Covering.{CoversAt, IsClosedAt, IsMet, PartsEndWell};
 ghost use Rattle.schedule_states.specs.Numbers.{AreKept};
-ghost use Rattle.schedule_states.specs.Ending.{AreTurns, AreTurnsAt, CoversAt, HavePartsStopped, IsTurn};
+ghost use Rattle.schedule_states.specs.Ending.{AreTurns, AreTurnsAt, HavePartsStopped, IsTurn};
 ghost use Rattle.schedule_states.specs.Happening.{AreLed, HasHappenedAt, IsLedAs};
 ghost use Rattle.schedule_states.specs.Judging.{IsGoodMoment, StaysGood};
 ghost use Rattle.schedule_states.specs.Leads.{AreOfHarts};
@@ -13,7 +13,7 @@ ghost use Rattle.schedule_states.specs.Media.{AreOnMedium};
 ghost use Rattle.schedule_states.specs.Reaching.{AreNumbered, AreNumbersBefore, AreNumbersOf, ArePartsOf, AreThere, HaveGrown, IsFirst, IsKeptOn, WereBefore};
 ghost use Rattle.schedule_states.specs.States.{AreLists};
 ghost use Rattle.schedule_states.specs.Successors.{HasLists};
-ghost use Rattle.schedule_states.specs.Turns.{MayGo, MayNotGo};
+ghost use Rattle.schedule_states.specs.Turns.{MayClaim, MayGo, MayNotGo};
 ghost use Rattle.schedule_states.specs.declared.program_state.HartPart.{HartPart as AHartPart};
 ghost use Rattle.schedule_states.specs.declared.program_state.ProgramState.{ProgramState as AProgramState};
 
@@ -67,6 +67,8 @@ pub enum Stop {
     Ended(u32),
     /// This hart makes too many steps: at the start up to its first request, else up to the request behind its next one.
     TooLong(u32),
+    /// A request breaks what is claimed of this line.
+    Claimed(u64),
 }
 
 impl<'a, J: StateJudge> Reached<'a, J> {
@@ -215,7 +217,8 @@ impl<'a, J: StateJudge> Reached<'a, J> {
         judge: &J,
         number: u32,
     ) -> Result<Result<[u32; 8], Stop>, AllocError>
-        requires { number < length self.old.states }
+        requires there { number < length self.old.states }
+        requires claims { MayClaim (J.allows judge.now) self.old.parts.claims }
         ensures closed { IfOk result (λ gone. IfOk gone (λ to. IsClosedAt (J.stands judge.now) (J.allows judge.now) (J.ends judge.now) self.new number)) }
         ensures turns { IfOk result (λ gone. IfOk gone (AreTurnsAt (J.stands judge.now) (J.allows judge.now) self.new number)) }
         ensures led { IfOk result (λ gone. IfOk gone (λ to. AreLed (J.stands judge.now) (J.allows judge.now) self.old →
@@ -255,6 +258,7 @@ impl<'a, J: StateJudge> Reached<'a, J> {
         requires parts { ArePartsOf self.old numbers.now self.old.harts state.now.harts.items }
         requires lists { HasLists self.old.parts state.now }
         requires standing { numbers.now.standing < length self.old.standings }
+        requires claims { MayClaim (J.allows judge.now) self.old.parts.claims }
         requires met { (t : J.Standing) → slice_get self.old.standings numbers.now.standing ≡ Some t → IsMet self.old number state.now t }
         ensures turns { IfOk result (λ gone. IfOk gone (λ to. (t : J.Standing) → slice_get self.old.standings numbers.now.standing ≡ Some t →
             AreTurns (J.stands judge.now) (J.allows judge.now) self.new state.now t self.new.harts to)) }
@@ -301,6 +305,7 @@ impl<'a, J: StateJudge> Reached<'a, J> {
         requires parts { ArePartsOf self.old numbers.now self.old.harts state.now.harts.items }
         requires lists { HasLists self.old.parts state.now }
         requires standing { numbers.now.standing < length self.old.standings }
+        requires claims { MayClaim (J.allows judge.now) self.old.parts.claims }
         ensures turn { IfOk result (λ gone. IfOk gone (λ next. (t : J.Standing) → slice_get self.old.standings numbers.now.standing ≡ Some t →
             IsTurn (J.stands judge.now) (J.allows judge.now) self.new state.now t hart next)) }
         ensures led { IfOk result (λ gone. IfOk gone (λ next. (t : J.Standing) → slice_get self.old.standings numbers.now.standing ≡ Some t →
@@ -330,6 +335,7 @@ impl<'a, J: StateJudge> Reached<'a, J> {
             }
             Successor::Stopped => Ok(Ok(None)),
             Successor::TooLong => Ok(Err(Stop::TooLong(hart))),
+            Successor::Claimed(line) => Ok(Err(Stop::Claimed(line))),
         }
     }
 

@@ -23,7 +23,7 @@ pub enum StateVerdict {
 pub trait StateJudge {
     ghost use Rattle.schedule_states.specs.Ending.{AnyMayGo};
     ghost use Rattle.schedule_states.specs.Happening.{HasHappened};
-    ghost use Rattle.schedule_states.specs.Judging.{AreGoodImages, StaysGood};
+    ghost use Rattle.schedule_states.specs.Judging.{AreGoodImages, IgnoresFull, StaysGood};
     ghost use Rattle.schedule_states.specs.Marks.{IsUnmarked};
     ghost use Rattle.schedule_states.specs.Turns.{MayGo, MayNotGo};
     ghost use Rattle.std.specs.Prelude.{◌≡◌, ◌++◌, ◌∷◌, [], ℕ, List, false, true, length, IfOk, IfSome};
@@ -107,6 +107,11 @@ pub trait StateJudge {
     fn must_end(&self) -> bool
         ensures demanded { demands self.now → result ≡ true }
         ensures free { result ≡ true → AnyMayGo (allows self.now) };
+
+    /// Whether lines may be claimed: where any hart may always make a step, and images are judged without a look at what loads find.
+    fn may_claim(&self) -> bool
+        ensures free { result ≡ true → AnyMayGo (allows self.now) }
+        ensures ignored { result ≡ true → (w : Self.Workspace) → IgnoresFull (good self.now w) };
 
     /// An event that marks no operation changes nothing of them.
     ghost unmarked: { (s : Self) (standing : Self.Standing) (events : List AnEvent) (event : AnEvent) → IsUnmarked event →

@@ -20,8 +20,10 @@ pub enum Successor {
     State(ProgramState, Option<Event>),
     /// Nothing: the hart has stopped.
     Stopped,
-    /// Unknown: the hart makes too many steps up to a further request.
+    /// Unknown: the hart makes too many steps, or requests that are its own affair, up to a further request.
     TooLong,
+    /// Unknown: the request breaks what is claimed of this line.
+    Claimed(u64),
 }
 
 /// The parts of the harts after a request of one, whose own part is given.

@@ -1,6 +1,6 @@
 //! Whether from each state of a program one can come to an end, where all its states were met.
 
-ghost use Rattle.std.specs.Prelude.{◌≡◌, ◌<◌, ◌^◌, ℕ, None, true, length, IfOk, IfSome};
+ghost use Rattle.std.specs.Prelude.{◌≡◌, ◌<◌, ◌^◌, ℕ, [], None, true, length, IfOk, IfSome};
 ghost use Rattle.schedule_states.specs.Ending.{AreEnds};
 ghost use Rattle.schedule_states.specs.Exploring.{IfAll, IfNoWayOut, IsAll, LeadByHarts};
 ghost use Rattle.schedule_states.specs.Ways.{AreInside};
@@ -25,7 +25,8 @@ pub fn all_judged<J: StateJudge>(
     requires some { 0 < length reached.now.states }
     requires turns { judged.now.ways.asked ≡ true → AreAllTurns (J.stands judge.now) (J.allows judge.now) reached.now judged.now.ways.next.items }
     ensures ends { IfOk result (λ explored. IfAll explored (judged.now.ways.asked ≡ true → EachCanEnd (J.stands judge.now) reached.now)) }
-    ensures requests { IfOk result (λ explored. LeadByHarts reached.now.harts explored × IfNoWayOut explored (LeadsNowhere (J.stands judge.now) reached.now)) }
+    ensures requests { IfOk result (λ explored. LeadByHarts reached.now.harts explored
+        × IfNoWayOut explored (λ requests. reached.now.parts.claims ≡ [] → LeadsNowhere (J.stands judge.now) reached.now requests)) }
 {
     if !judged.ways.asked {
         return Ok(all_of(reached, &judged.moments));

@@ -1,1 +1,2 @@
 pub mod Mixing
+mod LoadedLines

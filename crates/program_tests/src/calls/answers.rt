@@ -88,23 +88,23 @@ static CASES: [Case; 10] = [
             any_end: false,
         },
         known: Known::Pass {
-            states: 12,
-            moments: 9,
+            states: 7,
+            moments: 6,
         },
     },
-    // 45 states of sequential runs, and 322 of all
+    // 45 states of sequential runs, and 205 of all
     Case {
         source: Source {
             text: PUSH,
             harts: 2,
         },
         limits: Limits {
-            states: 367,
+            states: 250,
             any_end: false,
         },
         known: Known::Pass {
-            states: 322,
-            moments: 151,
+            states: 205,
+            moments: 114,
         },
     },
     Case {

@@ -108,8 +108,8 @@ static CASES: [Case; 14] = [
             any_end: false,
         },
         known: Known::Pass {
-            states: 12,
-            moments: 11,
+            states: 5,
+            moments: 5,
         },
     },
     Case {
@@ -123,8 +123,8 @@ static CASES: [Case; 14] = [
             any_end: false,
         },
         known: Known::Pass {
-            states: 144,
-            moments: 121,
+            states: 25,
+            moments: 25,
         },
     },
     Case {
@@ -134,12 +134,12 @@ static CASES: [Case; 14] = [
             harts: 3,
         },
         limits: Limits {
-            states: 1_728,
+            states: 125,
             any_end: false,
         },
         known: Known::Pass {
-            states: 1_728,
-            moments: 1_331,
+            states: 125,
+            moments: 125,
         },
     },
     Case {
@@ -149,7 +149,7 @@ static CASES: [Case; 14] = [
             harts: 3,
         },
         limits: Limits {
-            states: 1_727,
+            states: 124,
             any_end: false,
         },
         known: Known::TooMany(Bound::States),

@@ -85,6 +85,10 @@ impl StateJudge for InTurn {
         false
     }
 
+    fn may_claim(&self) -> bool {
+        false
+    }
+
     ghost unmarked = { λ s count events event plain kept. none_ended events event plain.ended ∙ kept };
 
     ghost equal = { λ s count other events same kept. kept ∙ eqb-true count other same };

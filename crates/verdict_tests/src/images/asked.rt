@@ -114,7 +114,9 @@ impl Answering for Asked {
             return Err(Refusal::TooOften);
         }
         let seen = seen_of(wanted);
-        self.seen.push(seen)?;
+        if self.seen.push(seen).is_err() {
+            return Err(Refusal::Memory);
+        }
         let reply = reply_to(self.alloc, seen.bytes, self.answers)?;
         Ok(reply)
     }
@@ -131,32 +133,38 @@ fn seen_of(wanted: &Wanted<'_, '_>) -> Seen
     }
 }
 
-/// What recovery comes to by the first bytes of lines 0 and 1, the second of which it loads only where the first isn't 0.
+/// The reply by the first bytes of lines 0 and 1, the second of which recovery loads only where the first isn't 0.
 fn reply_to(alloc: Global, bytes: [u8; 2], answers: bool) -> Result<Reply, AllocError>
     ensures { IfOk result (λ reply. (line : ℕ) → Contains reply.lines line → line < 2) }
 {
-    if bytes[0] == 0 {
-        let lines = lines_below(alloc, 1)?;
-        return Ok(Reply::new(Ok(Vec::new(alloc)), lines));
-    }
-    let lines = lines_below(alloc, 2)?;
-    if bytes[1] == 0 && !answers {
-        let word = Vec::from_slice(alloc, b"exit-1")?;
-        return Ok(Reply::new(Err(word), lines));
-    }
-    let answer = Vec::from_slice(alloc, &[bytes[1]])?;
-    Ok(Reply::new(Ok(answer), lines))
+    let found = found_in(alloc, bytes, answers)?;
+    let lines = lines_loaded(alloc, bytes[0] != 0)?;
+    Ok(Reply::new(found, lines))
 }
 
-/// The first lines, so many.
-fn lines_below(alloc: Global, count: u32) -> Result<Vec<u32>, AllocError>
-    ensures { IfOk result (λ lines. (line : ℕ) → Contains lines.items line → line < count) }
-{
-    let mut lines = Vec::new(alloc);
-    for line in 0..count {
-        lines.push(line)?;
+/// What recovery comes to.
+fn found_in(
+    alloc: Global,
+    bytes: [u8; 2],
+    answers: bool,
+) -> Result<Result<Vec<u8>, Vec<u8>>, AllocError> {
+    match bytes {
+        [0, _] => Ok(Ok(Vec::new(alloc))),
+        [_, 0] if !answers => Ok(Err(Vec::from_slice(alloc, b"exit-1")?)),
+        [_, entry] => Ok(Ok(Vec::from_slice(alloc, &[entry])?)),
     }
-    Ok(lines)
+}
+
+/// Line 0, and line 1 where both are loaded.
+#[tactic(auto, using(crate::proofs::LoadedLines::first_below, crate::proofs::LoadedLines::both_below))]
+fn lines_loaded(alloc: Global, both: bool) -> Result<Vec<u32>, AllocError>
+    ensures { IfOk result (λ lines. (line : ℕ) → Contains lines.items line → line < 2) }
+{
+    if both {
+        Vec::from_slice(alloc, &[0, 1])
+    } else {
+        Vec::from_slice(alloc, &[0])
+    }
 }
 
 /// What comes of judging; a bad image by its number.
@@ -181,7 +189,7 @@ enum Told {
     Other,
 }
 
-fn told(found: &Result<Verdict<OutsideCause>, OutsideFault<Refusal>>) -> Told {
+fn told_of(found: &Result<Verdict<OutsideCause>, OutsideFault<Refusal>>) -> Told {
     match found {
         Ok(Verdict::Pass { moments, images }) => Told::Pass {
             moments: *moments,
@@ -311,7 +319,7 @@ fn is_as_said<R: Threads + Sync>(
         Err(fault) => return case.told == Told::Fault(fault),
     };
     let found = run.judge(rt, alloc, case.first, None, &mut asked);
-    told(&found) == case.told && asked.seen.as_slice() == case.seen
+    told_of(&found) == case.told && asked.seen.as_slice() == case.seen
 }
 
 /// The first place of a case that comes to something else.

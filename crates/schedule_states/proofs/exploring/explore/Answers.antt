@@ -1,25 +1,23 @@
-use Rattle.std.proofs.Common.{sym, ◌∙◌}
-use Rattle.schedule_states.specs.Watching.{nothing}
+use Rattle.std.proofs.Common.{inl, refl}
+use Rattle.std.proofs.lemmas.Result.{IfOk-weaker}
+use Rattle.schedule_states.proofs.Judging.{final_leads, nowhere_more}
+use Rattle.schedule_states.proofs.Watching.{heard_then}
 use Rattle.schedule_states.proofs.exploring.explore.Goals as goal
 
-pub returns-in_err-parts-clause-told : goal.returns-in_err-parts-clause-told
-returns-in_err-parts-clause-told g c = nothing
+pub returns-in-Some-clause-requests : goal.returns-in-Some-clause-requests
+returns-in-Some-clause-requests g c = final_leads c.in-Some.explored _ _ (rw c.in-Some.is at c.in_ok-explored.ensures.only)
 
-pub returns-clause-good : goal.returns-clause-good
-returns-clause-good g c = rw (c.with_none-reached.ensures, c.in_ok-parts.ensures.program, c.in_ok-parts.ensures.medium) at c.explore_from.ensures.good
-
-pub returns-clause-requests : goal.returns-clause-requests
-returns-clause-requests g c = rw (c.with_none-reached.ensures, c.in_ok-parts.ensures.program, c.in_ok-parts.ensures.medium) at c.explore_from.ensures.requests
-
-pub explore_from-requires-clause-given : goal.explore_from-requires-clause-given
-explore_from-requires-clause-given g c κs within = rw (c.with_none-reached.ensures, c.in_ok-parts.ensures.program, c.in_ok-parts.ensures.medium) (
-  c.requires.fits,
-  c.requires.happens,
-  record {
-    asks = λ demanded. c.new-judged.ensures.ways.0 ∙ c.must_end.ensures.demanded demanded;
-    free = λ asked. c.must_end.ensures.free (sym c.new-judged.ensures.ways.0 ∙ asked);
-  },
-)
+pub explore_by-requires-clause-reduced : goal.explore_by-requires-clause-reduced
+explore_by-requires-clause-reduced g c κs within = inl refl
 
 pub returns-clause-kept : goal.returns-clause-kept
-returns-clause-kept g c = rw (c.with_none-reached.ensures, c.in_ok-parts.ensures.medium) at c.explore_from.ensures.kept
+returns-clause-kept g c = (
+  c.explore_by.ensures.kept.0,
+  λ events full image good. c.explore_by.ensures.kept.1 events full image (c.explore_claiming.ensures.kept.1 events full image good),
+)
+
+pub returns-clause-requests : goal.returns-clause-requests
+returns-clause-requests g c = IfOk-weaker c.explore_by.result _ _ (λ explored is. (is.0, nowhere_more explored _ _ (λ requests stuck. stuck refl) is.1)) c.explore_by.ensures.requests
+
+pub returns-clause-told : goal.returns-clause-told
+returns-clause-told g c = heard_then _ _ _ _ c.explore_claiming.ensures.told c.explore_by.ensures.told

@@ -1,6 +1,6 @@
 use Rattle.std.proofs.Common.{◌≡◌, ℕ, sym, ap, subst, ◌∙◌, rules}
 use Rattle.machine.specs.Run.{Config, started}
-use Rattle.schedule_states.specs.Ending.{CoversAt}
+use Rattle.schedule_states.specs.Covering.{CoversAt}
 use Rattle.schedule_states.specs.Happening.{AreLed}
 use Rattle.schedule_states.specs.States.{PartsView}
 use Rattle.schedule_states.specs.Watching.{nothing}
@@ -34,3 +34,6 @@ returns-clause-kept g c = rw c.meet_start.ensures.parts at c.search.ensures.kept
 
 pub search-requires-clause-given : goal.search-requires-clause-given
 search-requires-clause-given g c κs within = rw (c.meet_start.ensures.parts, c.meet_start.ensures.harts) c.requires.given
+
+pub search-requires-clause-reduced : goal.search-requires-clause-reduced
+search-requires-clause-reduced g c κs within = rw c.meet_start.ensures.parts c.requires.reduced

@@ -1,13 +1,13 @@
-use Rattle.std.proofs.Common.{◌≡◌, ◌≤◌, ◌<◌, ◌∷◌, ◌++◌, true, None, Some, List, [], ℕ, length, slice_get, refl, sym, ap, ◌∙◌, subst, rules, arith}
+use Rattle.std.proofs.Common.{◌≡◌, ◌≤◌, ◌<◌, ◌∷◌, ◌++◌, true, None, Some, List, [], ℕ, length, slice_get, inr, refl, sym, ap, ◌∙◌, subst, rules, arith}
 use Rattle.std.proofs.lemmas.Option.{slice_get_within}
 use Rattle.std.proofs.lemmas.Result.{IfOk-weaker}
 use Rattle.machine.specs.Run.{started}
-use Rattle.schedule_states.proofs.Closing.{closed_all, closed_next}
-use Rattle.schedule_states.proofs.Ending.{always_ends}
+use Rattle.schedule_states.proofs.Closing.{closed_all, closed_next, covers_at_kept}
+use Rattle.schedule_states.proofs.Covered.{ends_either, good_either, may_claim, reduce_at}
 use Rattle.schedule_states.proofs.Happening.{happening}
-use Rattle.schedule_states.proofs.Judging.{all_good, below_noted, good_next, leads_found, moments_kept, nowhere_found, nowhere_more, told_found, told_more}
+use Rattle.schedule_states.proofs.Judging.{below_noted, good_next, leads_found, moments_kept, nowhere_found, nowhere_more, told_found, told_more}
 use Rattle.schedule_states.proofs.Looking.{within_kept}
-use Rattle.schedule_states.proofs.Turning.{covers_at_kept, turns_next}
+use Rattle.schedule_states.proofs.Turning.{turns_next}
 use Rattle.schedule_states.specs.Covering.{IsClosed, IsClosedAt}
 use Rattle.schedule_states.specs.Ending.{AreTurnsBelow}
 use Rattle.schedule_states.specs.Judging.{AlwaysGood, AreGoodBelow, AreGoodMoments, IsGoodState}
@@ -20,6 +20,7 @@ pub loop-number-init : goal.loop-number-init
 loop-number-init g c = record {
   start = refl;
   harts = refl;
+  claims = refl;
   covers = c.requires.start.0;
   led = c.requires.start.1;
   closed = λ number few. absurd (omega (arith, few));
@@ -44,23 +45,28 @@ returns-then-number-met-clause-good g c =
     closed_all (g.J.StateJudge.stands c.args.judge.now) (g.J.StateJudge.allows c.args.judge.now) (g.J.StateJudge.ends c.args.judge.now) c.loop-number.reached c.loop-number.number c.loop-number.invariant.closed past in
     let good : AlwaysGood (g.J.StateJudge.stands c.args.judge.now) (g.J.StateJudge.allows c.args.judge.now) (g.J.StateJudge.good c.args.judge.now c.loop-number.workspace) (g.J.StateJudge.ends c.args.judge.now)
     c.args.reached.now.parts.table.start.program c.args.reached.now.parts.table.start.medium c.args.reached.now.harts =
-    all_good (g.J.StateJudge.stands c.args.judge.now) (g.J.StateJudge.allows c.args.judge.now)
+    good_either (g.J.StateJudge.stands c.args.judge.now) (g.J.StateJudge.allows c.args.judge.now)
     (g.J.StateJudge.good c.args.judge.now c.loop-number.workspace) (g.J.StateJudge.ends c.args.judge.now) c.loop-number.reached
     c.args.reached.now.parts.table.start.program c.args.reached.now.parts.table.start.medium c.args.reached.now.harts
+    (λ t es event plain. g.met.J.StateJudge.unmarked c.args.judge.now t es event plain)
+    (reduce_at (g.J.StateJudge.allows c.args.judge.now) (g.J.StateJudge.good c.args.judge.now) c.loop-number.workspace c.loop-number.reached.parts.claims
+    (rw (sym c.loop-number.invariant.claims) at c.requires.reduced))
     (ap (λ (s : StartView). s.medium) c.loop-number.invariant.start) c.loop-number.invariant.covers.0 closed (λ n few. c.loop-number.invariant.good n (omega (arith, few, past))) in
     IfOk-weaker c.all_judged.result _ _ (λ explored is. told_more explored _ _ (λ each. (
       good,
       λ demanded.
           let asked : c.args.judged.now.ways.asked ≡ true = c.requires.given.2.asks demanded in
-          always_ends (g.J.StateJudge.stands c.args.judge.now) (g.J.StateJudge.allows c.args.judge.now) (g.J.StateJudge.ends c.args.judge.now) c.loop-number.reached
-          c.args.reached.now.parts.table.start.program c.args.reached.now.parts.table.start.medium c.args.reached.now.harts closed c.loop-number.invariant.covers.0
+          ends_either (g.J.StateJudge.stands c.args.judge.now) (g.J.StateJudge.allows c.args.judge.now) (g.J.StateJudge.ends c.args.judge.now) c.loop-number.reached
+          c.args.reached.now.parts.table.start.program c.args.reached.now.parts.table.start.medium c.args.reached.now.harts
+          (λ t es event plain. g.met.J.StateJudge.unmarked c.args.judge.now t es event plain)
+          (inr (c.requires.given.2.free asked)) closed c.loop-number.invariant.covers.0
           (c.requires.given.2.free asked) (each (c.loop-number.invariant.asked ∙ asked)),
     )) is) c.all_judged.ensures.ends
 
 pub returns-then-number-met-clause-requests : goal.returns-then-number-met-clause-requests
 returns-then-number-met-clause-requests g c = IfOk-weaker c.all_judged.result _ _ (λ explored is. (
   rw c.loop-number.invariant.harts at is.0,
-  nowhere_more explored _ _ (λ requests nowhere. nowhere
+  nowhere_more explored _ _ (λ requests nowhere none. nowhere (c.loop-number.invariant.claims ∙ none)
       (started c.args.reached.now.parts.table.start.program c.args.reached.now.parts.table.start.medium c.args.reached.now.harts) c.loop-number.invariant.covers) is.1,
 )) c.all_judged.ensures.requests
 
@@ -85,23 +91,28 @@ returns-clause-good g c =
     closed_all (g.J.StateJudge.stands c.args.judge.now) (g.J.StateJudge.allows c.args.judge.now) (g.J.StateJudge.ends c.args.judge.now) c.loop-number.reached c.loop-number.number c.loop-number.invariant.closed past in
     let good : AlwaysGood (g.J.StateJudge.stands c.args.judge.now) (g.J.StateJudge.allows c.args.judge.now) (g.J.StateJudge.good c.args.judge.now c.loop-number.workspace) (g.J.StateJudge.ends c.args.judge.now)
     c.args.reached.now.parts.table.start.program c.args.reached.now.parts.table.start.medium c.args.reached.now.harts =
-    all_good (g.J.StateJudge.stands c.args.judge.now) (g.J.StateJudge.allows c.args.judge.now)
+    good_either (g.J.StateJudge.stands c.args.judge.now) (g.J.StateJudge.allows c.args.judge.now)
     (g.J.StateJudge.good c.args.judge.now c.loop-number.workspace) (g.J.StateJudge.ends c.args.judge.now) c.loop-number.reached
     c.args.reached.now.parts.table.start.program c.args.reached.now.parts.table.start.medium c.args.reached.now.harts
+    (λ t es event plain. g.met.J.StateJudge.unmarked c.args.judge.now t es event plain)
+    (reduce_at (g.J.StateJudge.allows c.args.judge.now) (g.J.StateJudge.good c.args.judge.now) c.loop-number.workspace c.loop-number.reached.parts.claims
+    (rw (sym c.loop-number.invariant.claims) at c.requires.reduced))
     (ap (λ (s : StartView). s.medium) c.loop-number.invariant.start) c.loop-number.invariant.covers.0 closed (λ n few. c.loop-number.invariant.good n (omega (arith, few, past))) in
     IfOk-weaker c.all_judged-2.result _ _ (λ explored is. told_more explored _ _ (λ each. (
       good,
       λ demanded.
           let asked : c.args.judged.now.ways.asked ≡ true = c.requires.given.2.asks demanded in
-          always_ends (g.J.StateJudge.stands c.args.judge.now) (g.J.StateJudge.allows c.args.judge.now) (g.J.StateJudge.ends c.args.judge.now) c.loop-number.reached
-          c.args.reached.now.parts.table.start.program c.args.reached.now.parts.table.start.medium c.args.reached.now.harts closed c.loop-number.invariant.covers.0
+          ends_either (g.J.StateJudge.stands c.args.judge.now) (g.J.StateJudge.allows c.args.judge.now) (g.J.StateJudge.ends c.args.judge.now) c.loop-number.reached
+          c.args.reached.now.parts.table.start.program c.args.reached.now.parts.table.start.medium c.args.reached.now.harts
+          (λ t es event plain. g.met.J.StateJudge.unmarked c.args.judge.now t es event plain)
+          (inr (c.requires.given.2.free asked)) closed c.loop-number.invariant.covers.0
           (c.requires.given.2.free asked) (each (c.loop-number.invariant.asked ∙ asked)),
     )) is) c.all_judged-2.ensures.ends
 
 pub returns-clause-requests : goal.returns-clause-requests
 returns-clause-requests g c = IfOk-weaker c.all_judged-2.result _ _ (λ explored is. (
   rw c.loop-number.invariant.harts at is.0,
-  nowhere_more explored _ _ (λ requests nowhere. nowhere
+  nowhere_more explored _ _ (λ requests nowhere none. nowhere (c.loop-number.invariant.claims ∙ none)
       (started c.args.reached.now.parts.table.start.program c.args.reached.now.parts.table.start.medium c.args.reached.now.harts) c.loop-number.invariant.covers) is.1,
 )) c.all_judged-2.ensures.requests
 
@@ -182,6 +193,7 @@ loop-number-preserved g c =
     let start : c.go_on_all.new.self.parts.table.start ≡ c.loop-number.reached.parts.table.start = c.go_on_all.ensures.grown.parts.table.start in record {
       start = start ∙ c.loop-number.invariant.start;
       harts = c.go_on_all.ensures.grown.harts ∙ c.loop-number.invariant.harts;
+      claims = c.go_on_all.ensures.grown.parts.claims ∙ c.loop-number.invariant.claims;
       covers = covers_at_kept (g.J.StateJudge.stands c.args.judge.now) c.loop-number.reached c.go_on_all.new.self 0
           (started c.args.reached.now.parts.table.start.program c.args.reached.now.parts.table.start.medium c.args.reached.now.harts)
           c.go_on_all.ensures.grown c.loop-number.invariant.covers;
@@ -211,3 +223,7 @@ judge_state-requires-clause-happens g c κs within =
     let there : c.loop-number.number < length c.loop-number.reached.states = search rules in
     happening (g.J.StateJudge.stands c.args.judge.now) (g.J.StateJudge.allows c.args.judge.now) (g.J.StateJudge.happens c.args.judge.now) c.loop-number.reached c.loop-number.number c.loop-number.invariant.led
     (rw (c.loop-number.invariant.start, c.loop-number.invariant.harts) c.requires.given.1) there
+
+pub go_on_all-requires-clause-claims : goal.go_on_all-requires-clause-claims
+go_on_all-requires-clause-claims g c = may_claim (g.J.StateJudge.allows c.args.judge.now) _ c.loop-number.reached.parts.claims
+    (rw (sym c.loop-number.invariant.claims) at c.requires.reduced)

@@ -1,7 +1,7 @@
 use Rattle.std.specs.Prelude.{◌≡◌, ◌≤◌, true, length}
 use Rattle.machine.specs.Run.{started}
-use Rattle.schedule_states.specs.Covering.{IsClosedBelow}
-use Rattle.schedule_states.specs.Ending.{AreTurnsBelow, CoversAt}
+use Rattle.schedule_states.specs.Covering.{CoversAt, IsClosedBelow}
+use Rattle.schedule_states.specs.Ending.{AreTurnsBelow}
 use Rattle.schedule_states.specs.Happening.{AreLed}
 use Rattle.schedule_states.specs.Judging.{AreGoodBelow, AreGoodMoments, StaysGood}
 use Rattle.schedule_states.specs.Watching.{HasHeard}
@@ -11,6 +11,7 @@ abbrev pub invariant-loop-number : goal.invariant-loop-number
 invariant-loop-number g l = record {
   start : l.reached.parts.table.start ≡ l.initial.reached.parts.table.start;
   harts : l.reached.harts ≡ l.initial.reached.harts;
+  claims : l.reached.parts.claims ≡ l.initial.reached.parts.claims;
   covers : CoversAt (g.J.StateJudge.stands l.judge) l.reached 0
       (started l.initial.reached.parts.table.start.program l.initial.reached.parts.table.start.medium l.initial.reached.harts);
   led : AreLed (g.J.StateJudge.stands l.judge) (g.J.StateJudge.allows l.judge) l.reached;

@@ -20,8 +20,8 @@ returns-in-Some-clause-requests g c =
     let asked : c.args.judged.now.ways.asked ≡ true = search rules in
     IfOk-weaker c.shown.result _ _ (λ explored is. (
       is.0,
-      nowhere_more explored _ _ (λ requests lead. leads_nowhere (g.J.StateJudge.stands c.args.judge.now) (g.J.StateJudge.allows c.args.judge.now) c.args.reached.now
-          c.args.judged.now.ways.next.items requests (c.requires.turns asked) lead) is.1,
+      nowhere_more explored _ _ (λ requests lead none. leads_nowhere (g.J.StateJudge.stands c.args.judge.now) (g.J.StateJudge.allows c.args.judge.now) c.args.reached.now
+          c.args.judged.now.ways.next.items requests none (c.requires.turns asked) lead) is.1,
     )) c.shown.ensures.requests
 
 pub returns-in-None-clause-ends : goal.returns-in-None-clause-ends

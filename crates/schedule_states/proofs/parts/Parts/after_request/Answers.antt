@@ -1,38 +1,30 @@
-use Rattle.std.proofs.Common.{◌≡◌, ◌≢◌, ◌<◌, Some, [], length, slice_get, slice_index_or, refl, ◌∙◌, ap, sym, subst, arith}
-use Rattle.std.proofs.lemmas.Result.{IfOk-weaker}
-use Rattle.std.proofs.lemmas.Option.{slice_get-get_or}
-use Rattle.hart.specs.declared.state.Status.TheVariants.{Running}
-use Rattle.machine.specs.Histories.{text_of}
-use Rattle.schedule_states.proofs.Answered.{stopped_asks_not}
-use Rattle.schedule_states.proofs.Happening.{if_state}
-use Rattle.schedule_states.specs.Ahead.{IsNext}
-use Rattle.schedule_states.specs.Successors.{IsAskingOf, memory_held}
-use Rattle.schedule_states.specs.declared.ahead.Next.TheVariants as nexts
-use Rattle.schedule_states.specs.declared.program_state.HartPart.{HartPart}
+use Rattle.schedule_states.proofs.Going.{turn_of}
+use Rattle.schedule_states.proofs.Growing.{grown_then, moved_then}
+use Rattle.schedule_states.specs.Happening.{IsAtFitRequest}
+use Rattle.schedule_states.specs.Successors.{HaveMoved, IsSettled, IsSuccessor}
+use Rattle.schedule_states.specs.declared.successor.Successor.TheVariants as answer
 use Rattle.schedule_states.proofs.parts.Parts.after_request.Goals as goal
 
-pub returns-in-Stopped-clause-successor : goal.returns-in-Stopped-clause-successor
-returns-in-Stopped-clause-successor c =
-    let part : slice_get c.args.state.now.harts.items c.args.hart ≡ Some c.index-part.result.now =
-    slice_get-get_or c.args.state.now.harts.items c.args.hart c.index-part.result.now c.requires.there
-    ∙ ap (λ (p : HartPart). Some p) (sym c.index-part.ensures) in
-    let stopped : c.index-part.result.now.state.status ≢ Running = rw c.in-Stopped.is at c.in-Some.ensures in
-    λ k d. stopped_asks_not c.args.self.now c.args.state.now k d c.args.hart c.index-part.result.now part stopped
+pub returns-in-Some-clause-turn : goal.returns-in-Some-clause-turn
+returns-in-Some-clause-turn c =
+    let successor : IsSuccessor c.args.self.now c.after_one.new.self c.args.state.now c.args.hart (answer.State c.in-State.next c.in-State.mark) =
+    rw c.in-State.is at c.in_ok-next.ensures.successor in
+    let at : IsAtFitRequest c.args.self.now c.args.state.now c.args.hart = rw c.in-State.is at c.in_ok-next.ensures.asks in
+    let settled : IsSettled c.after_one.new.self c.settled.new.self c.in-State.next c.args.hart c.in-Some.settled = rw c.in-Some.is at c.in_ok-settled-in-State.ensures.settled in
+    turn_of c.args.self.now c.after_one.new.self c.settled.new.self c.args.state.now c.in-State.next c.in-Some.settled c.args.hart c.in-State.mark c.after_one.ensures.grown.claims
+    successor at settled
 
-pub returns-in-Asks-clause-asks : goal.returns-in-Asks-clause-asks
-returns-in-Asks-clause-asks c =
-    let next : IsNext (text_of (memory_held c.args.self.now (slice_index_or c.args.self.now.lists c.index-part.result.now.text []))) c.index-part.result.now.state
-    (nexts.Asks c.in-Asks.instr c.in-Asks.request) = rw c.in-Asks.is at c.in-Some.ensures in
-    let asking : IsAskingOf c.args.self.now c.args.state.now (record { hart = c.args.hart; part = c.index-part.result.now; instr = c.in-Asks.instr; request = c.in-Asks.request }) =
-    record {
-      few = omega (arith, c.requires.there, c.requires.few);
-      text = subst (λ (part : HartPart). part.text < length c.args.self.now.lists) (sym c.index-part.ensures)
-          (c.requires.lists.texts c.args.hart c.index-part.result.now c.requires.there);
-      part = slice_get-get_or c.args.state.now.harts.items c.args.hart c.index-part.result.now c.requires.there
-          ∙ ap (λ (p : HartPart). Some p) (sym c.index-part.ensures);
-      asks = next.0;
-      spelled = next.1;
-      request = next.2;
-    } in
-    IfOk-weaker c.serve.result _ _ (λ found count. if_state found _ (record { hart = c.args.hart; part = c.index-part.result.now; instr = c.in-Asks.instr; request = c.in-Asks.request }, refl, asking))
-    c.serve.ensures.harts
+pub returns-in-Some-clause-harts : goal.returns-in-Some-clause-harts
+returns-in-Some-clause-harts c =
+    let first : HaveMoved c.args.hart c.args.state.now.harts.items c.in-State.next.harts.items = rw c.in-State.is at c.in_ok-next.ensures.harts in
+    let on : HaveMoved c.args.hart c.in-State.next.harts.items c.in-Some.settled.harts.items = rw c.in-Some.is at c.in_ok-settled-in-State.ensures.harts in
+    moved_then c.args.hart c.args.state.now.harts.items c.in-State.next.harts.items c.in-Some.settled.harts.items first on
+
+pub returns-in-Some-clause-grown : goal.returns-in-Some-clause-grown
+returns-in-Some-clause-grown c = grown_then c.args.self.now c.after_one.new.self c.settled.new.self c.after_one.ensures.grown c.settled.ensures.grown
+
+pub returns-in-None-clause-grown : goal.returns-in-None-clause-grown
+returns-in-None-clause-grown c = grown_then c.args.self.now c.after_one.new.self c.settled.new.self c.after_one.ensures.grown c.settled.ensures.grown
+
+pub returns-in_err-settled-in-State-clause-grown : goal.returns-in_err-settled-in-State-clause-grown
+returns-in_err-settled-in-State-clause-grown c = grown_then c.args.self.now c.after_one.new.self c.settled.new.self c.after_one.ensures.grown c.settled.ensures.grown

@@ -3,16 +3,16 @@ use Rattle.std.proofs.lemmas.Option.{slice_get_within}
 use Rattle.machine.specs.Replies.{SharedState, trace_in}
 use Rattle.machine.specs.Run.{Config, started}
 use Rattle.schedule_states.proofs.Closing.{grown_twice}
+use Rattle.schedule_states.proofs.Going.{led_on_own, leads_by, taken_of, turned_as}
 use Rattle.schedule_states.proofs.Happening.{LeadsOn, leads_on, led_grown, led_more, led_next, led_start}
 use Rattle.schedule_states.proofs.Numbering.{numbered_grown}
 use Rattle.schedule_states.proofs.Returning.{stands_before}
-use Rattle.schedule_states.specs.Marks.{IsMarkedBy}
-use Rattle.schedule_states.specs.Covering.{IsMet, ReachedView}
-use Rattle.schedule_states.specs.Ending.{CoversAt}
+use Rattle.schedule_states.specs.Covering.{IsMet, IsTaken, ReachedView}
 use Rattle.schedule_states.specs.Happening.{IsAtRequest, IsLedAs}
 use Rattle.schedule_states.specs.Reaching.{ArePartsOf, HaveGrown, IsKeptOn}
 use Rattle.schedule_states.specs.States.{AsksTo, StandsFor}
-use Rattle.schedule_states.specs.Successors.{HasLists, HaveMoved, IfState, IsSuccessor}
+use Rattle.schedule_states.specs.Successors.{HasLists, HaveMoved, IfState, IsTurnOf, IsTurned}
+use Rattle.schedule_states.specs.Turns.{MayClaim}
 use Rattle.schedule_states.specs.declared.successor.Successor.TheVariants as answer
 use Rattle.schedule_states.proofs.reached.Reached.go_on.Goals as goal
 
@@ -70,6 +70,15 @@ invariant_of-self-in-Stopped g c = numbered_grown
     (record { parts = c.self.inside.parts; hart_parts = c.self.inside.hart_parts; standings = c.self.inside.standings; states = c.self.inside.states; harts = c.self.inside.leads })
     c.after_request.new.self c.self.inside.standings c.after_request.ensures.grown (λ n value found. found) c.self.invariant
 
+pub invariant_of-self-in-Claimed : goal.invariant_of-self-in-Claimed
+invariant_of-self-in-Claimed g c = numbered_grown
+    (record { parts = c.self.inside.parts; hart_parts = c.self.inside.hart_parts; standings = c.self.inside.standings; states = c.self.inside.states; harts = c.self.inside.leads })
+    c.after_request.new.self c.self.inside.standings c.after_request.ensures.grown (λ n value found. found) c.self.invariant
+
+pub returns-in-Claimed-clause-before : goal.returns-in-Claimed-clause-before
+returns-in-Claimed-clause-before g c =
+    rw (sym c.self.view_is) (λ s k lists stands. stands_before c.self.inside.parts c.after_request.new.self s k c.after_request.ensures.grown c.lists_are_there.ensures lists stands)
+
 pub invariant_of-self-in-TooLong : goal.invariant_of-self-in-TooLong
 invariant_of-self-in-TooLong g c = numbered_grown
     (record { parts = c.self.inside.parts; hart_parts = c.self.inside.hart_parts; standings = c.self.inside.standings; states = c.self.inside.states; harts = c.self.inside.leads })
@@ -91,30 +100,23 @@ returns-in-TooLong-clause-before g c =
 pub returns-in_ok-number-in-State-clause-turn : goal.returns-in_ok-number-in-State-clause-turn
 returns-in_ok-number-in-State-clause-turn g c = λ t kept.
     let lists : HasLists c.self.inside.parts c.args.state.now = rw (sym c.self.view_is) at c.requires.lists in
-    let successor : IsSuccessor c.self.inside.parts c.after_request.new.self c.args.state.now c.args.hart (answer.State c.in-State.next c.in-State.mark) =
-    rw c.in-State.is at c.in_ok-next.ensures.successor in
+    let turn : IsTurnOf c.self.inside.parts c.after_request.new.self c.args.state.now c.args.hart (answer.State c.in-State.next c.in-State.mark) =
+    rw c.in-State.is at c.in_ok-next.ensures.turn in
     let was : slice_get c.self.inside.standings c.args.numbers.now.standing ≡ Some t = rw (sym c.self.view_is) at kept in
     let on : IsKeptOn (g.J.StateJudge.stands c.args.judge.now) c.self.inside.standings c.standing_after.new.known c.args.numbers.now.standing c.in-State.mark c.in-Some.standing =
     search rules in
     let next = on t was in
+    let claims : c.number_of.new.self.parts.claims ≡ c.self.inside.parts.claims = rw c.number_of.ensures.parts c.after_request.ensures.grown.claims in
     let before : (k : Config) → StandsFor c.number_of.new.self.parts c.args.state.now k → StandsFor c.self.inside.parts c.args.state.now k = λ k stands.
     stands_before c.self.inside.parts c.after_request.new.self c.args.state.now k c.after_request.ensures.grown c.lists_are_there.ensures lists
     (rw c.number_of.ensures.parts at stands) in
-    let comes : (k d : Config) → StandsFor c.self.inside.parts c.args.state.now k → g.J.StateJudge.stands c.args.judge.now t (trace_in k.common) → AsksTo k c.args.hart d →
-    CoversAt (g.J.StateJudge.stands c.args.judge.now) c.number_of.new.self c.in_ok-number-in-State.number d = λ k d stands stood asks.
-    let after : StandsFor c.after_request.new.self c.in-State.next d × IsMarkedBy c.in-State.mark (trace_in k.common) (trace_in d.common) = successor k d stands asks in (
-      record {
-        state = c.in-State.next;
-        standing = next.0;
-        number = c.in_ok-number-in-State.number;
-        met = c.in_ok-number-in-State.ensures.met next.0 next.1;
-        stands_as = (rw c.number_of.ensures.parts after.0, next.2 (trace_in k.common) (trace_in d.common) after.1 stood);
-      },
-      refl,
-    ) in
+    let met : IsMet c.number_of.new.self c.in_ok-number-in-State.number c.in-State.next next.0 = c.in_ok-number-in-State.ensures.met next.0 next.1 in
+    let comes : (k d : Config) → StandsFor c.self.inside.parts c.args.state.now k → g.J.StateJudge.stands c.args.judge.now t (trace_in k.common) → (asks : AsksTo k c.args.hart d) →
+    IsTaken (g.J.StateJudge.stands c.args.judge.now) c.number_of.new.self t c.args.hart c.in_ok-number-in-State.number k d asks.request = λ k d stands stood asks.
+    taken_of (g.J.StateJudge.stands c.args.judge.now) c.self.inside.parts c.after_request.new.self c.number_of.new.self c.in-State.next t next.0 c.args.hart c.in_ok-number-in-State.number c.in-State.mark
+    k d asks (λ x es event plain. g.met.J.StateJudge.unmarked c.args.judge.now x es event plain) claims c.number_of.ensures.parts met next.2 stood (turn k d stands asks) in
     let allowed : c.may_go.result ≡ true = search rules in
-    let at : IsAtRequest c.self.inside.parts c.args.state.now c.args.hart = rw c.in-State.is at c.in_ok-next.ensures.asks in
-    let met : IsMet c.number_of.new.self c.in_ok-number-in-State.number c.in-State.next next.0 = c.in_ok-number-in-State.ensures.met next.0 next.1 in (
+    let at : IsAtRequest c.self.inside.parts c.args.state.now c.args.hart = rw c.in-State.is at c.in_ok-next.ensures.asks in (
       λ k d stands_as may asks. comes k d (before k stands_as.0) stands_as.1 asks,
       record {
         there = slice_get_within c.number_of.new.self.states c.in_ok-number-in-State.number met.numbers met.found;
@@ -125,15 +127,16 @@ returns-in_ok-number-in-State-clause-turn g c = λ t kept.
             (before k stands_as.0) at in
             let stood : g.J.StateJudge.stands c.args.judge.now t (trace_in on.ready.common) =
             subst (λ (common : SharedState). g.J.StateJudge.stands c.args.judge.now t (trace_in common)) (sym on.still) stands_as.1 in
-            record { steps = on.led.steps; end = on.next; runs = on.led.runs; covers = comes on.ready on.next on.stands stood on.asks };
+            leads_by (g.J.StateJudge.stands c.args.judge.now) c.number_of.new.self k on.ready on.next t c.args.hart c.in_ok-number-in-State.number on.asks.request on.led.steps on.led.runs
+            (comes on.ready on.next on.stands stood on.asks);
       },
     )
 
 pub returns-in-Stopped-clause-turn : goal.returns-in-Stopped-clause-turn
 returns-in-Stopped-clause-turn g c = λ t kept k d stands_as may asks.
     let lists : HasLists c.self.inside.parts c.args.state.now = rw (sym c.self.view_is) at c.requires.lists in
-    let none : IsSuccessor c.self.inside.parts c.after_request.new.self c.args.state.now c.args.hart answer.Stopped =
-    rw c.in-Stopped.is at c.in_ok-next.ensures.successor in
+    let none : IsTurnOf c.self.inside.parts c.after_request.new.self c.args.state.now c.args.hart answer.Stopped =
+    rw c.in-Stopped.is at c.in_ok-next.ensures.turn in
     let before : StandsFor c.self.inside.parts c.args.state.now k =
     stands_before c.self.inside.parts c.after_request.new.self c.args.state.now k c.after_request.ensures.grown c.lists_are_there.ensures lists stands_as.0 in
     absurd (none k d before asks)
@@ -219,15 +222,18 @@ returns-in_ok-number-in-State-clause-led g c t kept led are =
     let on : LeadsOn (g.J.StateJudge.allows c.args.judge.now) (started old.parts.table.start.program old.parts.table.start.medium old.harts) old.parts c.args.state.now led_in.end c.args.hart =
     leads_on (g.J.StateJudge.allows c.args.judge.now) (started old.parts.table.start.program old.parts.table.start.medium old.harts) old.parts c.args.state.now led_in.end c.args.hart led_in.led may_in
     led_in.stands_as.0 at in
-    let successor : IsSuccessor c.self.inside.parts c.after_request.new.self c.args.state.now c.args.hart (answer.State c.in-State.next c.in-State.mark) =
-    rw c.in-State.is at c.in_ok-next.ensures.successor in
-    let comes : StandsFor c.after_request.new.self c.in-State.next on.next × IsMarkedBy c.in-State.mark (trace_in on.ready.common) (trace_in on.next.common) =
-    successor on.ready on.next on.stands on.asks in
+    let turn : IsTurnOf c.self.inside.parts c.after_request.new.self c.args.state.now c.args.hart (answer.State c.in-State.next c.in-State.mark) =
+    rw c.in-State.is at c.in_ok-next.ensures.turn in
     let kept_on : IsKeptOn (g.J.StateJudge.stands c.args.judge.now) c.self.inside.standings c.standing_after.new.known c.args.numbers.now.standing c.in-State.mark c.in-Some.standing = search rules in
     let next = kept_on t was in
     let stood : g.J.StateJudge.stands c.args.judge.now t (trace_in on.ready.common) =
     subst (λ (common : SharedState). g.J.StateJudge.stands c.args.judge.now t (trace_in common)) (sym on.still) led_in.stands_as.1 in
+    let turned : IsTurned c.self.inside.parts c.after_request.new.self c.args.hart c.in-State.next c.in-State.mark on.ready on.next on.asks.request = turn on.ready on.next on.stands on.asks in
+    let free : MayClaim (g.J.StateJudge.allows c.args.judge.now) c.self.inside.parts.claims = rw (sym c.self.view_is) at c.requires.claims in
     led_more (g.J.StateJudge.stands c.args.judge.now) (g.J.StateJudge.allows c.args.judge.now) old c.number_of.new.self c.in-State.next next.0 grown (c.in_ok-number-in-State.ensures.only next.0 next.1)
-    (led_next (g.J.StateJudge.stands c.args.judge.now) (g.J.StateJudge.allows c.args.judge.now) old c.number_of.new.self c.in-State.next next.0 on.next grown on.led
-    (rw c.number_of.ensures.parts comes.0, next.2 (trace_in on.ready.common) (trace_in on.next.common) comes.1 stood))
+    (led_next (g.J.StateJudge.stands c.args.judge.now) (g.J.StateJudge.allows c.args.judge.now) old c.number_of.new.self c.in-State.next next.0 turned.end grown
+    (led_on_own (g.J.StateJudge.allows c.args.judge.now) c.self.inside.parts.claims (started old.parts.table.start.program old.parts.table.start.medium old.harts) c.args.hart turned.steps on.next
+    turned.end free turned.none on.led turned.goes)
+    (turned_as (g.J.StateJudge.stands c.args.judge.now) c.self.inside.parts c.after_request.new.self c.number_of.new.self c.in-State.next t next.0 c.args.hart c.in-State.mark on.ready on.next on.asks
+    (λ x es event plain. g.met.J.StateJudge.unmarked c.args.judge.now x es event plain) c.number_of.ensures.parts next.2 stood turned))
     (rw (sym c.self.view_is) at are)

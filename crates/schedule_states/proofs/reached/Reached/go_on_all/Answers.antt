@@ -51,5 +51,5 @@ returns-clause-led g c =
     let met : IsMet c.args.self.now c.args.number c.in_ok-state.state t.0 = met_of_parts c.args.self.now c.args.number c.numbers-numbers.result c.in_ok-state.state t.0
     c.numbers-numbers.ensures.found c.in_ok-state.ensures.memory t.1 c.in_ok-state.ensures.parts in
     IfOk-weaker c.turns.result _ _ (λ gone all. IfOk-weaker gone _ _ (λ to led are.
-    led t.0 t.1 (led_as_met (g.J.StateJudge.stands c.args.judge.now) (g.J.StateJudge.allows c.args.judge.now) c.args.self.now c.args.number c.in_ok-state.state t.0 met (are c.args.number c.requires)) are) all)
+    led t.0 t.1 (led_as_met (g.J.StateJudge.stands c.args.judge.now) (g.J.StateJudge.allows c.args.judge.now) c.args.self.now c.args.number c.in_ok-state.state t.0 met (are c.args.number c.requires.there)) are) all)
     c.turns.ensures.led

@@ -14,7 +14,7 @@ not_below n below = omega (arith, below)
 pub invariant_of-self : goal.invariant_of-self
 invariant_of-self g c =
     let same : AreGrown c.self.inside.parts c.self.inside.parts =
-    record { table = record { start = refl; grows = λ n s found. found }; lists = λ n held found. found } in
+    record { table = record { start = refl; grows = λ n s found. found }; lists = λ n held found. found; claims = refl } in
     numbered_grown
     (record { parts = c.self.inside.parts; hart_parts = c.self.inside.hart_parts; standings = c.self.inside.standings; states = c.self.inside.states; harts = c.self.inside.leads })
     c.self.inside.parts c.first_standing.new.known same c.first_standing.ensures.kept c.self.invariant
@@ -22,7 +22,7 @@ invariant_of-self g c =
 pub invariant_of-self-2 : goal.invariant_of-self-2
 invariant_of-self-2 g c =
     let same : AreGrown c.self.inside.parts c.self.inside.parts =
-    record { table = record { start = refl; grows = λ n s found. found }; lists = λ n held found. found } in
+    record { table = record { start = refl; grows = λ n s found. found }; lists = λ n held found. found; claims = refl } in
     numbered_grown
     (record { parts = c.self.inside.parts; hart_parts = c.self.inside.hart_parts; standings = c.self.inside.standings; states = c.self.inside.states; harts = c.self.inside.leads })
     c.self.inside.parts c.first_standing.new.known same c.first_standing.ensures.kept c.self.invariant

@@ -1,4 +1,4 @@
-use Rattle.std.proofs.Common.{◌≡◌, ◌<◌, ℕ, length, refl, sym, ◌∙◌, subst, arith, rules}
+use Rattle.std.proofs.Common.{◌≡◌, ◌<◌, ℕ, List, length, refl, sym, ◌∙◌, subst, arith, rules}
 use Rattle.std.proofs.lemmas.List.{get_or-replicate, length-set}
 use Rattle.schedule_states.proofs.Closing.{before_twice, grown_twice}
 use Rattle.schedule_states.proofs.Happening.{led_as_kept}
@@ -7,12 +7,14 @@ use Rattle.schedule_states.proofs.Numbering.{lists_kept, met_kept, parts_kept}
 use Rattle.schedule_states.proofs.Turning.{no_turns, turns_kept, turns_more}
 use Rattle.schedule_states.specs.Ending.{AreTurns}
 use Rattle.schedule_states.specs.Reaching.{HaveGrown}
+use Rattle.schedule_states.specs.Turns.{MayClaim}
+use Rattle.schedule_states.specs.declared.claims.ClaimedLine.{ClaimedLine}
 use Rattle.schedule_states.proofs.reached.Reached.turns.Goals as goal
 
 pub loop-hart-init : goal.loop-hart-init
 loop-hart-init g c = record {
   grown = record {
-    parts = record { table = record { start = refl; grows = λ n s found. found }; lists = λ n held found. found };
+    parts = record { table = record { start = refl; grows = λ n s found. found }; lists = λ n held found. found; claims = refl };
     hart_parts = λ n value found. found;
     standings = λ n value found. found;
     states = λ n value found. found;
@@ -75,3 +77,6 @@ returns-clause-turns g c t kept =
 
 pub returns-clause-led : goal.returns-clause-led
 returns-clause-led g c t kept led are = c.loop-hart.invariant.led t kept led are
+
+pub go_on-requires-clause-claims : goal.go_on-requires-clause-claims
+go_on-requires-clause-claims g c = subst (λ (claims : List ClaimedLine). MayClaim (g.J.StateJudge.allows c.args.judge.now) claims) (sym c.loop-hart.invariant.grown.parts.claims) c.requires.claims
