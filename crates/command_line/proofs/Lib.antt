@@ -1,4 +1,6 @@
 pub mod Concluding
+mod Absences
+mod FarItems
 mod FirstBad
 mod Held
 mod Kept

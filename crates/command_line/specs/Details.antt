@@ -1,5 +1,5 @@
 -- What a refused file has at its fault: a token, a line, an item or its size, and what is wanted in place of it.
-use Rattle.std.specs.Prelude.{◌≡◌, ◌⊎◌, ◌==◌, ℕ, Bool, true, false, List, [], ◌++◌, Option, Some, None, All, codes, decimal, if◌then◌else◌, length, option_map, string_bytes}
+use Rattle.std.specs.Prelude.{◌≡◌, ◌⊎◌, ◌==◌, ℕ, ◌+◌, nat_lt, Bool, true, false, List, [], ◌++◌, Option, Some, None, All, codes, decimal, if◌then◌else◌, length, option_map, string_bytes}
 use Rattle.std.specs.List.{list_any}
 use Rattle.report.specs.SlipNearest.{IsFar, IsNear}
 use Rattle.report.specs.Slips.{IsSlip}
@@ -7,12 +7,14 @@ use Rattle.report.specs.declared.slips.places.Part.{Part}
 use Rattle.report.specs.declared.slips.slip.Slip.{Slip}
 use Rattle.assemble.specs.declared.asm_line.fault.AsmCode.{AsmCode}
 use Rattle.assemble.specs.declared.asm_line.fault.AsmCode.TheVariants.{Mnemonic}
-use Rattle.command_line.specs.Items.{IsFirstBad, IsScheduleText, word_hint}
+use Rattle.command_line.specs.Items.{HasNoneBeyond, IsFirstBad, IsFirstBeyond, IsScheduleText, word_hint}
 use Rattle.report.specs.PrintedWords.{printed_words}
 use Rattle.command_line.specs.SourceLines.{front_of_line, numbered_line}
 use Rattle.command_line.specs.declared.details.Detail.{Detail}
+use Rattle.command_line.specs.declared.failure.Limit.{Limit}
+use Rattle.command_line.specs.declared.failure.Limit.TheVariants.{Harts, Lines}
 use Rattle.command_line.specs.declared.failure.Refusal.{Refusal}
-use Rattle.command_line.specs.declared.failure.Refusal.TheVariants.{Assembly, Marks, Medium, Plan, RecoverySource, ScheduleText, Trace}
+use Rattle.command_line.specs.declared.failure.Refusal.TheVariants.{Assembly, Beyond, Marks, Medium, Plan, RecoverySource, ScheduleText, Trace}
 use Rattle.routine_judge.specs.declared.history.fault.MarkFault.{MarkFault}
 use Rattle.routine_judge.specs.declared.history.fault.MarkFault.TheVariants.{NoOperation}
 use Rattle.text.specs.Words.{words_of_lines}
@@ -93,6 +95,27 @@ pub record IsSumDetail (text : List ℕ) (detail : Detail) : Type 0 where
 abbrev pub IsItemDetail : List ℕ → Detail → Type 0
 IsItemDetail text detail = IsBadItemDetail text detail ⊎ IsSumDetail text detail
 
+-- ` (the medium has N cache lines)`, ` (--harts is N; hH takes --harts M)`, and where no run has such a hart ` (--harts is N, and at most 8)`
+abbrev pub limit_text : Limit → ℕ → List ℕ
+limit_text (Lines lines) named = codes " (the medium has " ++ (decimal lines ++ codes " cache lines)")
+limit_text (Harts harts) named =
+    if nat_lt named 8 then codes " (--harts is " ++ (decimal harts ++ (codes "; h" ++ (decimal named ++ (codes " takes --harts " ++ (decimal (named + 1) ++ codes ")")))))
+    else codes " (--harts is " ++ (decimal harts ++ codes ", and at most 8)")
+
+-- the first item of a schedule's text that goes past a limit, and what that is
+abbrev pub far_text : Limit → ℕ → List ℕ → ℕ → List ℕ
+far_text limit number word named = item_text number word ++ limit_text limit named
+
+pub record TellsFar (limit : Limit) (text : List ℕ) (detail : Detail) : Type 0 where
+  pub number : ℕ
+  pub word : List ℕ
+  pub named : ℕ
+  pub first : IsFirstBeyond limit text number word named
+  pub parts : HasParts None (far_text limit number word named) [] detail
+
+abbrev pub IsFarDetail : Limit → List ℕ → Detail → Type 0
+IsFarDetail limit text detail = TellsFar limit text detail ⊎ (HasNoneBeyond limit text × HasParts None [] [] detail)
+
 -- `N bytes`
 abbrev pub size_text : ℕ → List ℕ
 size_text bytes = decimal bytes ++ codes " bytes"
@@ -109,6 +132,7 @@ IsDetail (RecoverySource fault) file detail = IsSourceDetail fault.code (numbere
 IsDetail (Plan fault) file detail = HasParts None (line_text (numbered_line file fault.line)) (plan_hint file) detail
 IsDetail (Trace fault) file detail = HasParts None (line_text (numbered_line file fault.line)) [] detail
 IsDetail ScheduleText file detail = IsItemDetail file detail
+IsDetail (Beyond limit) file detail = IsFarDetail limit file detail
 IsDetail Medium file detail = HasParts None (size_text (length file)) (codes "64 times 512 to 16384") detail
 IsDetail (Marks fault) file detail = HasParts None [] (mark_hint fault) detail
 IsDetail refusal file detail = HasParts None [] [] detail

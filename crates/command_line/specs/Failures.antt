@@ -47,10 +47,17 @@ use Rattle.trace_file.specs.declared.fault.TraceFileFault.{TraceFileFault}
 use Rattle.command_line.specs.Reports.{line_end}
 use Rattle.command_line.specs.declared.failure.Failure.{Failure}
 use Rattle.command_line.specs.declared.failure.Failure.TheVariants.{Line, Refused, Unfinished, Memory, File}
+use Rattle.command_line.specs.declared.failure.Limit.{Limit}
+use Rattle.command_line.specs.declared.failure.Limit.TheVariants.{Harts, Lines}
 use Rattle.command_line.specs.declared.failure.Refusal.{Refusal}
-use Rattle.command_line.specs.declared.failure.Refusal.TheVariants.{Assembly, Object, Plan, ScheduleText, Trace, Medium, Volume, Step, Foreign, Moment, Image, Operation, Marks, Reply, NoReply, RecoverySource, RecoveryObject, Elf, RecoveryElf}
+use Rattle.command_line.specs.declared.failure.Refusal.TheVariants.{Assembly, Object, Plan, ScheduleText, Trace, Medium, Volume, Step, Beyond, Foreign, Moment, Image, Operation, Marks, Reply, NoReply, RecoverySource, RecoveryObject, Elf, RecoveryElf}
 use Rattle.command_line.specs.declared.files.FileFault.{FileFault}
 use Rattle.command_line.specs.declared.files.FileFault.TheVariants as files
+
+-- the code of a step past a limit
+abbrev pub limit_code : Limit → List ℕ
+limit_code (Harts harts) = step_code steps.NoSuchHart
+limit_code (Lines lines) = step_code steps.NoSuchLine
 
 -- the code of what was refused
 abbrev pub refusal_code : Refusal → List ℕ
@@ -63,6 +70,7 @@ refusal_code (Trace fault) = trace_file_code fault.code
 refusal_code Medium = codes "M3"
 refusal_code (Volume fault) = volume_code fault
 refusal_code (Step fault) = step_code fault
+refusal_code (Beyond limit) = limit_code limit
 refusal_code Foreign = finish_code seats.Foreign
 refusal_code Moment = image_code images.NoSuchMoment
 refusal_code Image = image_code images.NotACut
@@ -105,8 +113,8 @@ failure_status File = 5
 
 -- the failure for a file that wasn't read or written
 abbrev pub failure_of_file : FileFault → Failure
-failure_of_file files.Failed = File
 failure_of_file files.Memory = Memory
+failure_of_file fault = File
 
 -- for a source that wasn't assembled
 abbrev pub failure_by_code : AsmFault → AsmCode → Failure
@@ -165,6 +173,12 @@ failure_of_volume fault = Refused (Volume fault)
 abbrev pub failure_of_step : StepFault → Failure
 failure_of_step steps.Memory = Memory
 failure_of_step fault = Refused (Step fault)
+
+-- for a run by a schedule, over so many harts and cache lines, that stopped
+abbrev pub failure_of_run : ℕ → ℕ → StepFault → Failure
+failure_of_run harts lines steps.NoSuchHart = Refused (Beyond (Harts harts))
+failure_of_run harts lines steps.NoSuchLine = Refused (Beyond (Lines lines))
+failure_of_run harts lines fault = failure_of_step fault
 
 -- for an interleaving that wasn't drawn
 abbrev pub failure_of_drawing : InterleaveFault → Failure

@@ -1,3 +1,4 @@
+pub mod Absent
 pub mod AllSchedules
 pub mod Answered
 pub mod Answering
@@ -13,6 +14,7 @@ pub mod Drawing
 pub mod Explaining
 pub mod Failures
 pub mod FileNames
+pub mod Further
 pub mod ImageFiles
 pub mod Imaging
 pub mod Items
@@ -35,6 +37,7 @@ pub mod Making
 pub mod Naming
 pub mod Noting
 pub mod Objects
+pub mod Others
 pub mod Outcomes
 pub mod Picturing
 pub mod Progress

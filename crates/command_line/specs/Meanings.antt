@@ -1,21 +1,23 @@
--- What is printed of a failure beyond its first line: the file that is refused, the place in it, what the code means, what stands there and
+-- What is printed of a refusal beyond its first line: the file that is refused, the place in it, what the code means, what stands there and
 -- what is wanted.
-use Rattle.std.specs.Prelude.{◌≡◌, ℕ, List, [], ◌∷◌, ◌++◌, Option, Some, None, Result, Ok, MatchOption, MatchResult, ◌==◌, codes, decimal, if◌then◌else◌, length, string_bytes}
+use Rattle.std.specs.Prelude.{◌≡◌, ℕ, List, [], ◌∷◌, ◌++◌, Option, Some, None, Result, MatchOption, MatchResult, ◌==◌, codes, decimal, if◌then◌else◌, length, string_bytes}
 use Rattle.arguments.specs.Codes.{IsMeaningOf}
 use Rattle.arguments.specs.declared.codes.table.Meaning.{Meaning}
 use Rattle.command_line.specs.Details.{IsDetail}
 use Rattle.command_line.specs.Failures.{refusal_code}
 use Rattle.command_line.specs.FileNames.{Names}
 use Rattle.command_line.specs.Kinds.{IsKindTold}
-use Rattle.command_line.specs.LostFiles.{FindsLost}
+use Rattle.command_line.specs.LostFiles.{FindsLost, Lost}
 use Rattle.command_line.specs.Reports.{line_end}
 use Rattle.report.specs.PrintedWords.{printed_words}
 use Rattle.command_line.specs.Steps.{First, Reads, ReadsFile, Step, Still}
 use Rattle.command_line.specs.declared.details.Detail.{Detail}
 use Rattle.command_line.specs.declared.failure.Failure.{Failure}
-use Rattle.command_line.specs.declared.failure.Failure.TheVariants.{File, Memory, Refused}
+use Rattle.command_line.specs.declared.failure.Failure.TheVariants.{Memory}
 use Rattle.command_line.specs.declared.failure.Refusal.{Refusal}
-use Rattle.command_line.specs.declared.failure.Refusal.TheVariants.{Assembly, Object, Plan, ScheduleText, Trace, Medium, Volume, Step as Stopped, Foreign, Moment, Image, Operation, Marks, Reply, NoReply, RecoverySource, RecoveryObject, Elf, RecoveryElf}
+use Rattle.command_line.specs.declared.files.FileFault.{FileFault}
+use Rattle.command_line.specs.declared.files.FileFault.TheVariants as files
+use Rattle.command_line.specs.declared.failure.Refusal.TheVariants.{Assembly, Object, Plan, ScheduleText, Trace, Medium, Volume, Step as Stopped, Beyond, Foreign, Moment, Image, Operation, Marks, Reply, NoReply, RecoverySource, RecoveryObject, Elf, RecoveryElf}
 
 -- the one, where there is one, and else the other
 abbrev pub first_name : Option (List ℕ) → Option (List ℕ) → Option (List ℕ)
@@ -33,6 +35,7 @@ refused_file names (Trace fault) = names.trace
 refused_file names Medium = names.medium
 refused_file names (Volume fault) = names.medium
 refused_file names (Stopped fault) = names.schedule
+refused_file names (Beyond limit) = names.schedule
 refused_file names Foreign = names.program
 refused_file names Moment = None
 refused_file names Image = None
@@ -111,18 +114,24 @@ ReadsThen reads (Some name) says = First (ReadsFile reads name) (λ file. Still 
 abbrev pub files_read : Names → List (Option (List ℕ))
 files_read names = names.plan ∷ names.program ∷ names.schedule ∷ names.recovery ∷ names.medium ∷ names.trace ∷ []
 
-abbrev pub lost_text : Option (List ℕ) → List ℕ
-lost_text None = []
-lost_text (Some name) = printed_words name ++ codes ": can't be read\n"
+-- why a file can't be read
+abbrev pub cause_text : FileFault → List ℕ
+cause_text files.Missing = codes "no such file"
+cause_text files.Folder = codes "a folder"
+cause_text files.Forbidden = codes "permission refused"
+cause_text files.TooLong = codes "more than 67108864 bytes"
+cause_text files.Failed = codes "can't be read"
+cause_text files.Memory = codes "can't be read"
 
--- which of them can't be read
+abbrev pub lost_line : Lost → List ℕ
+lost_line lost = printed_words lost.name ++ (codes ": " ++ (cause_text lost.fault ++ line_end))
+
+abbrev pub lost_text : Option Lost → List ℕ
+lost_text None = []
+lost_text (Some lost) = lost_line lost
+
+-- which of them can't be read, and why
 pub record SaysLost {F : Type 0} (reads : Reads F) (names : Names) (old : F) (outcome : Result (List ℕ) Failure) (new : F) : Type 0 where
-  pub lost : Option (List ℕ)
+  pub lost : Option Lost
   pub finds : FindsLost reads (files_read names) old lost new
   pub says : MatchResult outcome (λ text. text ≡ lost_text lost) (λ failure. failure ≡ Memory)
-
--- what is said of a failure of a command that reads files of these names
-abbrev pub SaysMore : {F : Type 0} → Reads F → Names → Failure → Step F (List ℕ)
-SaysMore reads names (Refused refusal) = ReadsThen reads (refused_file names refusal) (SaysRefused (refused_file names refusal) refusal)
-SaysMore reads names File = SaysLost reads names
-SaysMore reads names failure = Still (λ outcome. outcome ≡ Ok [])

@@ -9,7 +9,8 @@ use Rattle.arguments.specs.declared.asked.LineFault.{LineFault}
 use Rattle.debugger.specs.StreamFailures.{AppendsFront}
 use Rattle.command_line.specs.Failures.{failure_text}
 use Rattle.command_line.specs.FileNames.{is_json, names_of}
-use Rattle.command_line.specs.Meanings.{ReadsThen, SaysMore, refused_file}
+use Rattle.command_line.specs.Further.{SaysMore}
+use Rattle.command_line.specs.Meanings.{ReadsThen, refused_file}
 use Rattle.command_line.specs.Objects.{SaysObject}
 use Rattle.command_line.specs.Steps.{Reads, Step}
 use Rattle.command_line.specs.declared.failure.Failure.{Failure}
@@ -39,7 +40,7 @@ OfCommand words of none = ((command : Command) × IsCommand words command × of 
 -- more is said of a failure of a line
 abbrev pub SaysMoreOfLine : {F : Type 0} → Reads F → List (List ℕ) → Failure → Step F (List ℕ)
 SaysMoreOfLine reads words failure old outcome new =
-    OfCommand words (λ command. SaysMore reads (names_of command) failure old outcome new) ((outcome ≡ Ok []) × (new ≡ old))
+    OfCommand words (λ command. SaysMore reads command failure old outcome new) ((outcome ≡ Ok []) × (new ≡ old))
 
 -- what is found is printed, or a front of it, and nothing where memory for it, or the file, is refused
 abbrev pub IsToldIfFound : {E : Type 0} → (E → Option (List ℕ)) → Result (List ℕ) Failure → E → E → Type 0

@@ -1,15 +1,16 @@
 //! What a refused file has at its fault: a token, a line, an item or its size, and what is wanted in place of it.
 
-ghost use Rattle.command_line.specs.Details.{HasParts, IsDetail, IsItemDetail, IsMeant, IsNearText, IsSlipOf, IsSourceDetail, is_unnamed, item_text, line_text, mark_hint, near_text, part_text, plan_hint, size_text};
+ghost use Rattle.command_line.specs.Details.{HasParts, IsDetail, IsFarDetail, IsItemDetail, IsMeant, IsNearText, IsSlipOf, IsSourceDetail, far_text, is_unnamed, item_text, limit_text, line_text, mark_hint, near_text, part_text, plan_hint, size_text};
 ghost use Rattle.command_line.specs.Items.{word_hint};
 ghost use Rattle.report.specs.PrintedWords.{printed_words};
 ghost use Rattle.command_line.specs.SourceLines.{numbered_line};
 ghost use Rattle.std.specs.Prelude.{◌≡◌, [], None, IfOk, codes, option_map, string_bytes};
 
-use crate::failure::Refusal;
-use crate::items::{BadItem, bad_item, word_hint};
+use crate::failure::{Limit, Refusal};
+use crate::items::{BadItem, FarItem, bad_item, item_beyond, word_hint};
 use crate::source_lines::{front_of_line, numbered_line};
 use assemble::{AsmCode, AsmFault};
+use machine::MAX_HARTS;
 use report::{Form, Part, PrintedWords, Slip, nearest_mnemonic, slip_in};
 use routine_judge::MarkFault;
 use std::alloc::{AllocError, Global};
@@ -36,6 +37,7 @@ pub(crate) fn detail_of(alloc: Global, refusal: &Refusal, file: &[u8]) -> Result
         Refusal::Plan(fault) => plan_detail(alloc, file, fault.line),
         Refusal::Trace(fault) => line_detail(alloc, numbered_line(file, fault.line), ""),
         Refusal::ScheduleText => schedule_detail(alloc, file),
+        Refusal::Beyond(limit) => far_detail(alloc, file, *limit),
         Refusal::Medium => size_detail(alloc, file.len()),
         Refusal::Marks(fault) => Ok(hint_detail(alloc, mark_hint(*fault))),
         _ => Ok(hint_detail(alloc, "")),
@@ -198,16 +200,58 @@ fn schedule_detail(alloc: Global, file: &[u8]) -> Result<Detail, AllocError>
 fn item_detail(alloc: Global, item: BadItem<'_>) -> Result<Detail, AllocError>
     ensures { IfOk result (HasParts None (item_text item.entry.number item.entry.word.now) (word_hint item.entry.word.now)) }
 {
-    let number = item.number;
-    let word = PrintedWords {
-        words: front_of_line(item.word),
-        form: Form::Text,
-    };
     Ok(Detail {
         column: None,
-        text: format!(in alloc; "item {number}, {word}")?,
+        text: shown_item(alloc, item.number, item.word)?,
         hint: word_hint(item.word),
     })
+}
+
+/// `item N, WORD`.
+fn shown_item(alloc: Global, number: usize, word: &[u8]) -> Result<String, AllocError>
+    ensures { IfOk result (λ text. string_bytes text ≡ item_text number word.now) }
+{
+    let word = PrintedWords {
+        words: front_of_line(word),
+        form: Form::Text,
+    };
+    format!(in alloc; "item {number}, {word}")
+}
+
+/// The first item of a schedule's text that goes past a limit.
+fn far_detail(alloc: Global, file: &[u8], limit: Limit) -> Result<Detail, AllocError>
+    ensures { IfOk result (IsFarDetail limit file.now) }
+{
+    match item_beyond(alloc, file, limit)? {
+        Some(item) => told_item(alloc, item, limit),
+        None => Ok(hint_detail(alloc, "")),
+    }
+}
+
+fn told_item(alloc: Global, item: FarItem<'_>, limit: Limit) -> Result<Detail, AllocError>
+    ensures { IfOk result (HasParts None (far_text limit item.entry.number item.entry.word.now item.entry.named) []) }
+{
+    let shown = shown_item(alloc, item.number, item.word)?;
+    let limit = limit_text(alloc, limit, item.named)?;
+    Ok(Detail {
+        column: None,
+        text: format!(in alloc; "{shown}{limit}")?,
+        hint: "",
+    })
+}
+
+/// What the limit is, and of a hart that a run may have the option that gives it.
+fn limit_text(alloc: Global, limit: Limit, named: u32) -> Result<String, AllocError>
+    ensures { IfOk result (λ text. string_bytes text ≡ limit_text limit named) }
+{
+    match limit {
+        Limit::Lines(lines) => format!(in alloc; " (the medium has {lines} cache lines)"),
+        Limit::Harts(harts) if named < MAX_HARTS => {
+            let wanted = named + 1;
+            format!(in alloc; " (--harts is {harts}; h{named} takes --harts {wanted})")
+        }
+        Limit::Harts(harts) => format!(in alloc; " (--harts is {harts}, and at most 8)"),
+    }
 }
 
 /// What is said of marks.

@@ -130,7 +130,7 @@ pub(crate) fn open_events<F: Files>(
     }
 }
 
-fn open_scheduled<F: Files>(
+pub(crate) fn open_scheduled<F: Files>(
     alloc: Global,
     run: &ScheduledRun,
     files: &mut F,
@@ -155,7 +155,7 @@ pub(crate) fn opened(made: MadeRun) -> Result<OpenEvents, Failure>
     Ok(OpenEvents::Run(made))
 }
 
-fn open_trace<F: Files>(
+pub(crate) fn open_trace<F: Files>(
     alloc: Global,
     events: &TracedEvents,
     files: &mut F,

@@ -13,6 +13,30 @@ use routine_judge::MarkFault;
 use std::fmt;
 use trace_file::TraceFileFault;
 
+/// What the items of a schedule may not go past.
+#[derive(Clone, Copy, Debug, PartialEq, Eq)]
+pub enum Limit {
+    /// So many harts, numbered from 0.
+    Harts(u32),
+    /// So many cache lines of the medium, numbered from 0.
+    Lines(u32),
+}
+
+impl Limit {
+    ghost use Rattle.std.specs.Prelude.{◌≡◌};
+    ghost use Rattle.command_line.specs.Failures.{limit_code};
+
+    /// The code of a step past the limit.
+    fn code(self) -> &'static str
+        ensures { result.now ≡ limit_code self }
+    {
+        match self {
+            Limit::Harts(_) => StepFault::NoSuchHart.code(),
+            Limit::Lines(_) => StepFault::NoSuchLine.code(),
+        }
+    }
+}
+
 /// Input that is refused, by the fault that was found in it.
 #[derive(Clone, Copy, Debug, PartialEq, Eq)]
 pub enum Refusal {
@@ -34,6 +58,8 @@ pub enum Refusal {
     Volume(VolumeFault),
     /// A step of a run.
     Step(StepFault),
+    /// An item of a run's schedule, by what it goes past.
+    Beyond(Limit),
     /// What the harts of a run have made.
     Foreign,
     /// A moment past the events of a run.
@@ -75,6 +101,7 @@ impl Refusal {
             Refusal::Medium => "M3",
             Refusal::Volume(fault) => fault.code(),
             Refusal::Step(fault) => fault.code(),
+            Refusal::Beyond(limit) => limit.code(),
             Refusal::Foreign => FinishFault::Foreign.code(),
             Refusal::Moment => ImageFault::NoSuchMoment.code(),
             Refusal::Image => ImageFault::NotACut.code(),

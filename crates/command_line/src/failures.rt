@@ -1,10 +1,10 @@
 //! The failures that faults of the layers below come to.
 
 ghost use Rattle.std.specs.Prelude.{◌≡◌};
-ghost use Rattle.command_line.specs.Failures.{failure_of_assembly, failure_of_check, failure_of_drawing, failure_of_file, failure_of_image, failure_of_judge, failure_of_medium, failure_of_plan, failure_of_program, failure_of_schedule, failure_of_session, failure_of_step, failure_of_together, failure_of_trace, failure_of_volume};
+ghost use Rattle.command_line.specs.Failures.{failure_of_assembly, failure_of_check, failure_of_drawing, failure_of_file, failure_of_image, failure_of_judge, failure_of_medium, failure_of_plan, failure_of_program, failure_of_run, failure_of_schedule, failure_of_session, failure_of_step, failure_of_together, failure_of_trace, failure_of_volume};
 ghost use Rattle.command_line.specs.declared.failure.Failure.TheVariants.{Memory};
 
-use crate::failure::{Failure, Refusal};
+use crate::failure::{Failure, Limit, Refusal};
 use crate::files::FileFault;
 use assemble::{AsmCode, AsmFault};
 use crash_image::ImageFault;
@@ -25,8 +25,8 @@ impl From<FileFault> for Failure {
 
     fn from(fault: FileFault) -> Failure {
         match fault {
-            FileFault::Failed => Failure::File,
             FileFault::Memory => Failure::Memory,
+            _ => Failure::File,
         }
     }
 }
@@ -118,6 +118,17 @@ impl From<StepFault> for Failure {
             StepFault::Memory => Failure::Memory,
             _ => Failure::Refused(Refusal::Step(fault)),
         }
+    }
+}
+
+/// The failure of a run by a schedule over so many harts and cache lines of the medium.
+pub(crate) fn failure_of_run(harts: u32, lines: u32, fault: StepFault) -> Failure
+    ensures { result ≡ failure_of_run harts lines fault }
+{
+    match fault {
+        StepFault::NoSuchHart => Failure::Refused(Refusal::Beyond(Limit::Harts(harts))),
+        StepFault::NoSuchLine => Failure::Refused(Refusal::Beyond(Limit::Lines(lines))),
+        _ => Failure::from(fault),
     }
 }
 

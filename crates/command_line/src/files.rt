@@ -8,7 +8,15 @@ ghost use Rattle.command_line.specs.declared.files.FileFault.{FileFault as AFaul
 /// Why a file wasn't read or written.
 #[derive(Clone, Copy, Debug, PartialEq, Eq)]
 pub enum FileFault {
-    /// It couldn't be.
+    /// There is no file of this name.
+    Missing,
+    /// It is a folder.
+    Folder,
+    /// The system doesn't permit it.
+    Forbidden,
+    /// It has more bytes than are read of a file.
+    TooLong,
+    /// It couldn't be, for another reason.
     Failed,
     /// Memory was refused.
     Memory,

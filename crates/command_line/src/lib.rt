@@ -1,6 +1,7 @@
 //! The program's commands: what each reads, writes and prints, and the status that it ends with.
 #![tactic(auto)]
 
+mod absent;
 mod all_schedules;
 mod answer;
 mod answering;
@@ -21,6 +22,7 @@ mod failure;
 mod failures;
 mod file_names;
 mod files;
+mod further;
 mod image;
 mod images;
 mod interleave;
@@ -39,6 +41,7 @@ mod naming;
 mod noting;
 mod objects;
 mod opened;
+mod others;
 mod picture;
 mod progress;
 mod reading;
@@ -65,7 +68,7 @@ mod writing;
 pub use answer::{Action, Answer, NotedAnswer};
 pub use commands::outcome;
 pub use executing::{answer_line, execute};
-pub use failure::{Failure, Refusal};
+pub use failure::{Failure, Limit, Refusal};
 pub use files::{FileFault, Files};
 pub use opened::{OpenAsk, OpenCheck, OpenCheckAll, OpenJudge, OpenJudgeAll};
 pub use reporting::report;

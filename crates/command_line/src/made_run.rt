@@ -7,6 +7,7 @@ ghost use Rattle.machine.specs.Grammar.{hart_steps};
 ghost use Rattle.std.specs.Prelude.{◌≡◌, ◌^◌, ◌<◌, IfOk};
 
 use crate::failure::Failure;
+use crate::failures::failure_of_run;
 use crate::files::Files;
 use crate::reading::{RunFiles, read_run};
 use crate::run::capacity;
@@ -55,9 +56,12 @@ pub(crate) fn make_run(
         schedule,
         medium,
     } = read;
+    let lines = medium.lines();
     let setup = setup(&command.machine, program, medium);
-    let run = record_run(alloc, setup, &schedule)?;
-    Ok(MadeRun { file, run })
+    match record_run(alloc, setup, &schedule) {
+        Ok(run) => Ok(MadeRun { file, run }),
+        Err(fault) => Err(failure_of_run(command.machine.harts, lines, fault)),
+    }
 }
 
 /// What a run of a program starts from, on the machine that the options ask for.

@@ -1,79 +1,23 @@
-//! What is told of a failure beyond its first line: the file that is refused, the place in it, what the code means, and what is wanted.
+//! What is told of a refusal beyond its first line: the file that is refused, the place in it, what the code means, and what is wanted.
 
 ghost use Rattle.command_line.specs.FileNames.{names_in};
-ghost use Rattle.command_line.specs.Meanings.{ReadsThen, SaysLost, SaysMore, SaysRefused, behind_colon, first_name, in_brackets, lost_text, place_text, refused_file, told_hint};
-ghost use Rattle.std.specs.Prelude.{◌≡◌, [], IfOk, Ok, option_map, string_bytes};
+ghost use Rattle.command_line.specs.Meanings.{SaysLost, SaysRefused, behind_colon, cause_text, first_name, in_brackets, lost_line, place_text, refused_file, told_hint};
+ghost use Rattle.command_line.specs.LostFiles.{lost_in};
+ghost use Rattle.std.specs.Prelude.{◌≡◌, IfOk, option_map, string_bytes};
 ghost use Rattle.std.specs.Result.{result_map_both};
 
 use crate::details::detail_of;
 use crate::failure::{Failure, Refusal};
 use crate::file_names::FileNames;
-use crate::files::Files;
+use crate::files::{FileFault, Files};
 use crate::kinds::kind_told;
-use crate::lost_files::find_lost;
-use crate::reading::read_file;
+use crate::lost_files::{LostFile, find_lost};
 use arguments::meaning_of;
 use report::{Form, PrintedWords};
 use std::alloc::{AllocError, Global};
 
-/// What is told of a failure of a command that reads files of these names: a line, or nothing where its first line says all that is known.
-pub(crate) fn further_text<F: Files>(
-    alloc: Global,
-    names: &FileNames<'_>,
-    failure: &Failure,
-    files: &mut F,
-) -> Result<String, Failure>
-    ensures { SaysMore F.read_gives (names_in names.now) failure.now files.old (result_map_both (λ text. string_bytes text) (λ failure. failure) result) files.new }
-{
-    match failure {
-        Failure::Refused(refusal) => refused_text(
-            alloc,
-            refused_file(names, refusal),
-            refusal,
-            files,
-        ),
-        Failure::File => lost_text(alloc, names, files),
-        Failure::Line(_) => nothing(alloc),
-        Failure::Unfinished(_) => nothing(alloc),
-        Failure::Memory => nothing(alloc),
-    }
-}
-
-fn nothing(alloc: Global) -> Result<String, Failure>
-    ensures { result_map_both (λ text. string_bytes text) (λ failure. failure) result ≡ Ok [] }
-{
-    Ok(String::new(alloc))
-}
-
-/// What a refusal means, with the place in the file that is refused.
-fn refused_text<F: Files>(
-    alloc: Global,
-    name: Option<&str>,
-    refusal: &Refusal,
-    files: &mut F,
-) -> Result<String, Failure>
-    ensures { ReadsThen F.read_gives (option_map (λ name. name.now) name.entry) (SaysRefused (option_map (λ name. name.now) name.entry) refusal.now) files.old (result_map_both (λ text. string_bytes text) (λ failure. failure) result) files.new }
-{
-    match name {
-        Some(file) => refused_in(alloc, file, refusal, files),
-        None => meaning_text(alloc, None, refusal, &[]),
-    }
-}
-
-fn refused_in<F: Files>(
-    alloc: Global,
-    name: &str,
-    refusal: &Refusal,
-    files: &mut F,
-) -> Result<String, Failure>
-    ensures { ReadsThen F.read_gives (Some name.now) (SaysRefused (Some name.now) refusal.now) files.old (result_map_both (λ text. string_bytes text) (λ failure. failure) result) files.new }
-{
-    let file = read_file(name, files)?;
-    meaning_text(alloc, Some(name), refusal, &file)
-}
-
 /// What a refusal means, where the file that is refused has these bytes.
-fn meaning_text(
+pub(crate) fn meaning_text(
     alloc: Global,
     name: Option<&str>,
     refusal: &Refusal,
@@ -117,7 +61,7 @@ fn place_text(
 }
 
 /// `: TEXT`, or nothing.
-fn behind_colon(alloc: Global, text: &str) -> Result<String, AllocError>
+pub(crate) fn behind_colon(alloc: Global, text: &str) -> Result<String, AllocError>
     ensures { IfOk result (λ told. string_bytes told ≡ behind_colon text.now) }
 {
     if text.is_empty() {
@@ -146,7 +90,7 @@ fn told_hint(kind: &'static str, hint: &'static str) -> &'static str
 }
 
 /// Which of the files can't be read.
-fn lost_text<F: Files>(
+pub(crate) fn lost_text<F: Files>(
     alloc: Global,
     names: &FileNames<'_>,
     files: &mut F,
@@ -162,14 +106,32 @@ fn lost_text<F: Files>(
         trace,
     } = *names;
     match find_lost(&[plan, program, schedule, recovery, medium, trace], files) {
-        Some(name) => {
-            let name = PrintedWords {
-                words: name.as_bytes(),
-                form: Form::Text,
-            };
-            Ok(format!(in alloc; "{name}: can't be read\n")?)
-        }
+        Some(lost) => Ok(lost_line(alloc, lost)?),
         None => Ok(String::new(alloc)),
+    }
+}
+
+fn lost_line(alloc: Global, lost: LostFile<'_>) -> Result<String, AllocError>
+    ensures { IfOk result (λ text. string_bytes text ≡ lost_line (lost_in lost.entry)) }
+{
+    let name = PrintedWords {
+        words: lost.name.as_bytes(),
+        form: Form::Text,
+    };
+    let cause = cause_text(lost.fault);
+    format!(in alloc; "{name}: {cause}\n")
+}
+
+/// Why a file can't be read.
+fn cause_text(fault: FileFault) -> &'static str
+    ensures { result.now ≡ cause_text fault }
+{
+    match fault {
+        FileFault::Missing => "no such file",
+        FileFault::Folder => "a folder",
+        FileFault::Forbidden => "permission refused",
+        FileFault::TooLong => "more than 67108864 bytes",
+        FileFault::Failed | FileFault::Memory => "can't be read",
     }
 }
 
@@ -180,7 +142,7 @@ pub(crate) fn refused_file<'a>(names: &FileNames<'a>, refusal: &Refusal) -> Opti
     match refusal {
         Refusal::Assembly(_) | Refusal::Object(_) | Refusal::Elf(_) => names.program,
         Refusal::Plan(_) => names.plan,
-        Refusal::ScheduleText | Refusal::Step(_) => names.schedule,
+        Refusal::ScheduleText | Refusal::Step(_) | Refusal::Beyond(_) => names.schedule,
         Refusal::Trace(_) => names.trace,
         Refusal::Medium | Refusal::Volume(_) => names.medium,
         Refusal::Foreign => names.program,

@@ -13,7 +13,7 @@ ghost use Rattle.std.specs.Result.{result_map_both};
 use crate::failure::{Failure, Refusal};
 use crate::file_names::{FileNames, is_json, names_of};
 use crate::files::Files;
-use crate::meanings::further_text;
+use crate::further::further_text;
 use crate::objects::object_text;
 use crate::streams::print;
 use arguments::{Command, command};
@@ -92,7 +92,7 @@ fn more_of_line<F: Files>(
     ensures { SaysMoreOfLine F.read_gives (map string_bytes words.now) failure.now files.old (result_map_both (λ text. string_bytes text) (λ failure. failure) result) files.new }
 {
     match command(alloc, words) {
-        Ok(command) => further_text(alloc, &names_of(&command), failure, files),
+        Ok(command) => further_text(alloc, &command, failure, files),
         Err(_) => Ok(String::new(alloc)),
     }
 }

@@ -1,6 +1,6 @@
 //! The files on disk.
 
-ghost use Rattle.command_line.specs.declared.files.FileFault.TheVariants.{Failed};
+ghost use Rattle.command_line.specs.declared.files.FileFault.TheVariants.{TooLong};
 ghost use Rattle.std.specs.Prelude.{◌≡◌, ◌<◌, ◌≤◌, IfErr, IfOk, length};
 ghost use Rattle.std_io.specs.IoError.{error_kind};
 ghost use Rattle.host.specs.Faults.{fault_of_kind};
@@ -50,10 +50,10 @@ fn read_start<R: fs::Files + AllocGlobal>(rt: &R, name: &str, count: u64) -> io:
 fn within_limit(bytes: Vec<u8>) -> Result<Vec<u8>, FileFault>
     ensures same { IfOk result (λ taken. taken.items ≡ bytes.items) }
     ensures ok { IfOk result (λ taken. length bytes.items ≤ 67108864) }
-    ensures err { IfErr result (λ fault. (fault ≡ Failed) × 67108864 < length bytes.items) }
+    ensures err { IfErr result (λ fault. (fault ≡ TooLong) × 67108864 < length bytes.items) }
 {
     if bytes.len() as u64 > MOST_BYTES {
-        Err(FileFault::Failed)
+        Err(FileFault::TooLong)
     } else {
         Ok(bytes)
     }
@@ -64,6 +64,9 @@ fn fault_of(error: io::Error) -> FileFault
     ensures { result ≡ fault_of_kind (error_kind error) }
 {
     match error.kind() {
+        ErrorKind::NotFound | ErrorKind::NotADirectory => FileFault::Missing,
+        ErrorKind::IsADirectory => FileFault::Folder,
+        ErrorKind::PermissionDenied => FileFault::Forbidden,
         ErrorKind::OutOfMemory => FileFault::Memory,
         _ => FileFault::Failed,
     }

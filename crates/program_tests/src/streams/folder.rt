@@ -61,7 +61,7 @@ impl Files for Folder {
                 return Vec::from_slice(self.alloc, text.as_bytes()).map_err(|_| FileFault::Memory);
             }
         }
-        Err(FileFault::Failed)
+        Err(FileFault::Missing)
     }
 
     fn write(&mut self, name: &str, bytes: &[u8]) -> Result<(), FileFault> {

@@ -1,8 +1,8 @@
 use Rattle.std.proofs.Common.{refl}
-use Rattle.command_line.proofs.meanings.further_text.Goals as goal
+use Rattle.command_line.proofs.further.further_text.Goals as goal
 
 pub returns-in-File : goal.returns-in-File
-returns-in-File g c = rw c.in-File.is c.lost_text.ensures
+returns-in-File g c = rw (c.in-File.is, ← c.names_of.ensures) c.lost_text.ensures
 
 pub returns-in-Line : goal.returns-in-Line
 returns-in-Line g c = rw c.in-Line.is (record { value = c.nothing.ensures; untouched = refl })
