@@ -15,7 +15,7 @@ use Rattle.assemble.specs.Positions.{start, IsAfter}
 use Rattle.assemble.specs.Passes.{IsPlaced, Placing}
 use Rattle.assemble.proofs.First.{next_start, next_step, next_end, next_first, early_none, early_some}
 
-after_none : IsAfter [] start
+pub after_none : IsAfter [] start
 unfolding section_after size_of
 after_none = record { section_is = refl; text_is = refl; data_is = refl }
 

@@ -1,6 +1,7 @@
 pub mod Placed
 pub mod First
 pub mod FirstPass
+pub mod AllFaults
 pub mod ByteSteps
 pub mod SecondPass
 pub mod OneAnswer

@@ -1,6 +1,6 @@
 -- One line of the first pass, and the first fault.
 use Rattle.std.proofs.Common.{◌≡◌, ℕ, ◌+◌, Bool, true, false, List, ◌∷◌, refl, sym, ap, subst, ◌∙◌}
-use Rattle.std.specs.Prelude.{Some, None, Ok, Err, nat_lt, if◌then◌else◌}
+use Rattle.std.specs.Prelude.{Option, Some, None, Ok, Err, nat_lt, if◌then◌else◌}
 use Rattle.assemble.specs.declared.asm_line.fault.AsmCode.{AsmCode}
 use Rattle.assemble.specs.declared.asm_line.fault.AsmCode.TheVariants.{LabelTwice, WrongSection, TooLarge}
 use Rattle.asm_lex.specs.declared.asm_names.kinds.Section.{Section}
@@ -11,7 +11,7 @@ use Rattle.assemble.specs.declared.labels.Labels.{Labels}
 use Rattle.assemble.specs.declared.position.Position.{Position}
 use Rattle.assemble.specs.Places.{said, label_of, meaning_in, base_of, limit_of, share, size_at, section_from, section_after, size_of, place_after, value_in}
 use Rattle.assemble.specs.SourceLines.{Values, stands_in}
-use Rattle.assemble.specs.Faults.{is_defined, passes_limit, code_of_meaning, code_of_said}
+use Rattle.assemble.specs.Faults.{is_defined, passes_limit, code_of_label, code_of_meaning, code_of_said, late_code}
 use Rattle.assemble.specs.Labels.{place_at, noted}
 use Rattle.assemble.specs.Positions.{size_by, size_in, moved, stepped, IsAfter}
 use Rattle.assemble.specs.Passes.{IsPlaced}
@@ -137,3 +137,19 @@ pub statement_code : (p : Position) (old : Labels) (text : List ℕ) (m : LineMe
 statement_code p old text m earlier code reads step once placed =
     let new : is_defined (value_in earlier) m.label ≡ false = ap (λ (vs : Values). is_defined vs m.label) (sym placed.labels_are) ∙ once in
     rw (reads, new) (some_code p earlier m.meaning code placed.position_is step)
+
+-- the late code of a line, and the position behind it
+pub late_is : (values : Values) (p : Position) (text : List ℕ) (m : LineMeaning) (earlier : List (List ℕ)) (place : ℕ) (code : Option AsmCode)
+    → line_of text ≡ Ok m → place ≡ base_of p.section + size_in p → code ≡ code_of_label values place m.meaning → IsAfter earlier p
+    → late_code values earlier text ≡ code
+unfolding late_code
+late_is values p text m earlier place code reads at is a =
+    ap (λ (x : LineMeaning). code_of_label values (place_after earlier) x.meaning) (says text m reads)
+    ∙ ap (λ (n : ℕ). code_of_label values n m.meaning) (sym (at ∙ place_here p earlier a))
+    ∙ sym is
+
+pub next_after : (p q : Position) (text : List ℕ) (m : LineMeaning) (earlier : List (List ℕ)) → line_of text ≡ Ok m → stepped p m.meaning ≡ Ok q
+    → IsAfter earlier p → IsAfter (text ∷ earlier) q
+next_after p q text m earlier reads step a =
+    let moves = (stepped_ok p q m.meaning step).2 in
+    subst (IsAfter (text ∷ earlier)) (ap (λ (x : LineMeaning). moved p x.meaning) (says text m reads) ∙ sym moves) (moved_after p text earlier a)

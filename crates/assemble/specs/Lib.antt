@@ -3,6 +3,7 @@ pub mod Places
 pub mod SourceLines
 pub mod Faults
 pub mod Assembly
+pub mod AllFaults
 pub mod Standing
 pub mod Labels
 pub mod Positions

@@ -5,8 +5,10 @@ use Rattle.asm_lex.specs.Lines.{lines_of}
 use Rattle.assemble.specs.declared.labels.Labels.{Labels}
 use Rattle.assemble.specs.declared.position.Position.{Position}
 use Rattle.assemble.specs.Places.{value_in}
-use Rattle.assemble.specs.Faults.{NoneHas, early_code}
-use Rattle.assemble.specs.Assembly.{lines_back}
+use Rattle.assemble.specs.declared.fault.AsmFault.{AsmFault}
+use Rattle.assemble.specs.AllFaults.{faults_among, faults_behind, sound}
+use Rattle.assemble.specs.Faults.{NoneHas, early_code, late_code}
+use Rattle.assemble.specs.Assembly.{lines_back, values_of}
 use Rattle.assemble.specs.Labels.{place_at}
 use Rattle.assemble.specs.Positions.{IsAfter}
 
@@ -27,3 +29,17 @@ pub record Placing (source rest : List ℕ) (number : ℕ) (position : Position)
   pub next : IsNext source rest number earlier
   pub placed : IsPlaced earlier position labels
   pub none : NoneHas (early_code (length source)) earlier
+
+-- the pass for all faults that need no label's place
+pub record FindingEarly (source rest : List ℕ) (number : ℕ) (position : Position) (labels : Labels) (found : List AsmFault) : Type 0 where
+  pub earlier : List (List ℕ)
+  pub next : IsNext source rest number earlier
+  pub placed : IsPlaced (sound (early_code (length source)) earlier) position labels
+  pub found_are : found ≡ faults_behind (early_code (length source)) earlier
+
+-- and that for all faults of labels
+pub record FindingLate (source rest : List ℕ) (number : ℕ) (position : Position) (found : List AsmFault) : Type 0 where
+  pub earlier : List (List ℕ)
+  pub next : IsNext source rest number earlier
+  pub placed : IsAfter earlier position
+  pub found_are : found ≡ faults_among (late_code (values_of source)) earlier

@@ -1,10 +1,10 @@
 //! The labels of a source.
 
-ghost use Rattle.std.specs.Prelude.{◌≡◌, ◌≢◌, ◌≤◌, ◌^◌, ℕ, List, None, Some, IsSome, true, false, IfErr, OnOk, if◌then◌else◌};
+ghost use Rattle.std.specs.Prelude.{◌≡◌, ◌≤◌, ◌^◌, ℕ, List, None, Some, OnOk, if◌then◌else◌};
 ghost use Rattle.std.specs.Str.{bytes_eq};
 
 use crate::asm_line::AsmCode;
-use std::alloc::Global;
+use std::alloc::{AllocError, Global};
 use std::collections::HashMap;
 
 /// The labels that lines define, each with its place.
@@ -44,14 +44,19 @@ impl<'a> Labels<'a> {
         Ok(value as i32 - place as i32)
     }
 
-    /// Notes the label of a line at this place, if it has one. No earlier line may define it.
-    ///
-    /// After an error the labels are not to be used.
-    pub(crate) fn note(&mut self, label: Option<&'a [u8]>, place: u32) -> Result<(), AsmCode>
-        ensures ok { OnOk result ((text : List ℕ) → place_at self.new text ≡ noted (text_of label.entry) place (place_at self.old) text) }
-        ensures once { OnOk result (is_defined (place_at self.old) (text_of label.entry) ≡ false) }
-        ensures twice { IfErr result (λ code. code ≢ AsmCode.Memory → code ≡ AsmCode.LabelTwice) }
-        ensures again { IfErr result (λ code. code ≢ AsmCode.Memory → is_defined (place_at self.old) (text_of label.entry) ≡ true) }
+    /// Whether a line defines the label, if there is one.
+    pub(crate) fn has(&self, label: Option<&[u8]>) -> bool
+        ensures { result ≡ is_defined (place_at self.now) (text_of label.entry) }
+    {
+        match label {
+            Some(label) => self.place(label).is_some(),
+            None => false,
+        }
+    }
+
+    /// Notes the label of a line at this place, if it has one.
+    pub(crate) fn note(&mut self, label: Option<&'a [u8]>, place: u32) -> Result<(), AllocError>
+        ensures { OnOk result ((text : List ℕ) → place_at self.new text ≡ noted (text_of label.entry) place (place_at self.old) text) }
     {
         match label {
             Some(label) => self.define(label, place),
@@ -59,17 +64,12 @@ impl<'a> Labels<'a> {
         }
     }
 
-    /// Notes that a label is defined at this place, as it may be once.
-    fn define(&mut self, label: &'a [u8], place: u32) -> Result<(), AsmCode>
-        ensures ok { OnOk result ((text : List ℕ)
+    /// Notes that a label is defined at this place.
+    fn define(&mut self, label: &'a [u8], place: u32) -> Result<(), AllocError>
+        ensures { OnOk result ((text : List ℕ)
             → place_at self.new text ≡ (if bytes_eq label.entry.now text then Some place else place_at self.old text)) }
-        ensures once { OnOk result (place_at self.old label.entry.now ≡ None) }
-        ensures twice { IfErr result (λ code. code ≢ AsmCode.Memory → code ≡ AsmCode.LabelTwice) }
-        ensures again { IfErr result (λ code. code ≢ AsmCode.Memory → IsSome (place_at self.old label.entry.now)) }
     {
-        match self.places.insert(label, place)? {
-            Some(_) => Err(AsmCode::LabelTwice),
-            None => Ok(()),
-        }
+        self.places.insert(label, place)?;
+        Ok(())
     }
 }

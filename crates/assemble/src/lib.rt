@@ -9,6 +9,7 @@
 //! (CMO) 1.0.
 #![tactic(auto)]
 
+mod all_faults;
 mod asm_line;
 mod bytes;
 mod emission;
@@ -29,6 +30,7 @@ ghost use Rattle.assemble.specs.Standing.{LineStands};
 ghost use Rattle.program.specs.Sections.{Sections};
 ghost use Rattle.std.specs.Prelude.{◌≡◌, ◌≢◌, ◌<◌, ℕ, List, [], ◌∷◌, ◌++◌, Some, length, IfOk, IfErr};
 
+pub use all_faults::source_faults;
 use asm_lex::next_line;
 pub use asm_line::{AsmCode, Line, NumberWidth, Section, Statement, halves, read_line};
 use emission::sections_of;

@@ -40,7 +40,7 @@ pub(crate) fn labels_of<'a>(alloc: Global, source: &'a [u8]) -> Result<Labels<'a
     Ok(labels)
 }
 
-/// Notes the label of the next line, and goes past its statement.
+/// Notes the label of the next line, and goes past its statement. A line at fault changes nothing.
 pub(crate) fn place_line<'a>(
     alloc: Global,
     labels: &mut Labels<'a>,
@@ -53,9 +53,14 @@ pub(crate) fn place_line<'a>(
     ensures within { OnOk result (IsWithin position.new) }
     ensures err { IfErr result (λ code. code ≢ AsmCode.Memory
         → (earlier : List (List ℕ)) → IsPlaced earlier position.old labels.old → code_of_said earlier (line_of text.now) ≡ Some code) }
+    ensures unchanged { IfErr result (λ code. code ≢ AsmCode.Memory → (position.new ≡ position.old) × (labels.new ≡ labels.old)) }
 {
     let line = read_line(alloc, text)?;
+    if labels.has(line.label) {
+        return Err(AsmCode::LabelTwice);
+    }
+    let next = position.after(&line.statement)?;
     labels.note(line.label, position.place())?;
-    *position = position.after(&line.statement)?;
+    *position = next;
     Ok(())
 }

@@ -2,7 +2,7 @@
 use Rattle.std.specs.Prelude.{◌≡◌, ◌≢◌, ◌⊎◌, ◌<◌, ◌++◌, nat_lt, ℕ, Bool, true, false, List, [], ◌∷◌, Option, Some, None, Result, MatchResult, length}
 use Rattle.assemble.specs.declared.TheConstants.{SOURCE_LIMIT}
 use Rattle.assemble.specs.declared.fault.AsmFault.{AsmFault}
-use Rattle.source_faults.specs.Faults.{AreFirst, faults_of}
+use Rattle.assemble.specs.AllFaults.{AreFirst, faults_of}
 use Rattle.command_line.specs.Kinds.{IsKindTold}
 use Rattle.command_line.specs.Meanings.{SaysByRow}
 use Rattle.command_line.specs.declared.failure.Failure.{Failure}

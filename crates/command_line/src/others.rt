@@ -7,8 +7,7 @@ ghost use Rattle.std.specs.Result.{result_map_both};
 use crate::failure::{Failure, Refusal};
 use crate::kinds::kind_told;
 use crate::meanings::meaning_text;
-use assemble::{AsmFault, SOURCE_LIMIT};
-use source_faults::source_faults;
+use assemble::{AsmFault, SOURCE_LIMIT, source_faults};
 use std::alloc::Global;
 
 /// The most lines at fault of a source that are looked at.

@@ -10,12 +10,13 @@ use Rattle.assemble.specs.declared.TheConstants.{SOURCE_LIMIT}
 use Rattle.assemble.specs.declared.asm_line.fault.AsmCode.{AsmCode}
 use Rattle.assemble.specs.declared.fault.AsmFault.{AsmFault}
 use Rattle.assemble.specs.Labels.{place_at}
-use Rattle.source_faults.proofs.First.{after_none, early_none, early_some, next_end, next_start, next_step, placed_none}
-use Rattle.source_faults.specs.Faults.{AreFirst, early_faults, fault_at, faults_among, faults_behind, faults_of, late_faults, or_else, sound, with_line}
-use Rattle.source_faults.specs.Places.{Early, IsPlaced, Late}
-use Rattle.source_faults.specs.Positions.{IsAfter, start}
+use Rattle.assemble.proofs.First.{early_none, early_some, next_end, next_start, next_step}
+use Rattle.assemble.proofs.FirstPass.{after_none, placed_none}
+use Rattle.assemble.specs.AllFaults.{AreFirst, early_faults, fault_at, faults_among, faults_behind, faults_of, late_faults, or_else, sound, with_line}
+use Rattle.assemble.specs.Passes.{FindingEarly, FindingLate, IsPlaced}
+use Rattle.assemble.specs.Positions.{IsAfter, start}
 use Rattle.assemble.specs.declared.labels.Labels.{Labels}
-use Rattle.source_faults.specs.declared.position.Position.{Position}
+use Rattle.assemble.specs.declared.position.Position.{Position}
 
 -- one step of each definition
 sound_next : (code_of : Codes) (line : List ℕ) (earlier : List (List ℕ))
@@ -40,7 +41,7 @@ early_is size earlier line None fits is = early_none size earlier line fits is
 early_is size earlier line (Some code) fits is = early_some size earlier line code is
 
 pub early_start : (source : List ℕ) (p : Position) (labels : Labels) (found : List AsmFault) → p ≡ start → ((t : List ℕ) → place_at labels t ≡ None)
-    → found ≡ [] → Early source source 1 p labels found
+    → found ≡ [] → FindingEarly source source 1 p labels found
 unfolding sound faults_behind
 early_start source p labels found begins none empty = record {
   earlier = [];
@@ -54,7 +55,7 @@ pub early_step : (source rest line after : List ℕ) (number : ℕ) (p q : Posit
     → ((earlier : List (List ℕ)) → IsPlaced earlier p old → code_of_said earlier (line_of line) ≡ code)
     → ((earlier : List (List ℕ)) → IsPlaced earlier p old → IsPlaced (with_line code line earlier) q new)
     → more ≡ found ++ fault_at number code
-    → Early source rest number p old found → Early source after (number + 1) q new more
+    → FindingEarly source rest number p old found → FindingEarly source after (number + 1) q new more
 early_step source rest line after number p q old new found more code fits cut shorter has moves adds before =
     let lines : List (List ℕ) = sound (early_code (length source)) before.earlier in
     let is : early_code (length source) lines line ≡ code = early_is (length source) lines line code fits (has lines before.placed) in
@@ -73,7 +74,7 @@ early_step source rest line after number p q old new found more code fits cut sh
     }
 
 pub early_end : (source rest : List ℕ) (number most : ℕ) (p : Position) (labels : Labels) (found : List AsmFault) → rest ≡ []
-    → Early source rest number p labels found → AreFirst most (early_faults source) found
+    → FindingEarly source rest number p labels found → AreFirst most (early_faults source) found
 early_end source rest number most p labels found empty before =
     let all : before.earlier ≡ lines_back source = next_end source rest number before.earlier empty before.next in
     record {
@@ -109,7 +110,7 @@ among_grows code_of (line ∷ later) earlier =
     ∙ append_assoc (faults_among code_of earlier) one further.rest)
 
 pub early_full : (source rest : List ℕ) (number most : ℕ) (p : Position) (labels : Labels) (found : List AsmFault) → length found ≡ most
-    → Early source rest number p labels found → AreFirst most (early_faults source) found
+    → FindingEarly source rest number p labels found → AreFirst most (early_faults source) found
 early_full source rest number most p labels found full before =
     let grows = behind_grows (early_code (length source)) (lines_of rest) before.earlier in
     record {
@@ -120,7 +121,7 @@ early_full source rest number most p labels found full before =
     }
 
 -- the late pass
-pub late_start : (source : List ℕ) (p : Position) (found : List AsmFault) → p ≡ start → found ≡ [] → Late source source 1 p found
+pub late_start : (source : List ℕ) (p : Position) (found : List AsmFault) → p ≡ start → found ≡ [] → FindingLate source source 1 p found
 unfolding faults_among
 late_start source p found begins empty = record {
   earlier = [];
@@ -134,7 +135,7 @@ pub late_step : (source rest line after : List ℕ) (number : ℕ) (p q : Positi
     → ((earlier : List (List ℕ)) → IsAfter earlier p → late_code (values_of source) earlier line ≡ code)
     → ((earlier : List (List ℕ)) → IsAfter earlier p → IsAfter (line ∷ earlier) q)
     → more ≡ found ++ fault_at number code
-    → Late source rest number p found → Late source after (number + 1) q more
+    → FindingLate source rest number p found → FindingLate source after (number + 1) q more
 late_step source rest line after number p q found more code cut shorter has moves adds before =
     let is : late_code (values_of source) before.earlier line ≡ code = has before.earlier before.placed in
     record {
@@ -149,7 +150,7 @@ late_step source rest line after number p q found more code cut shorter has move
     }
 
 pub late_end : (source rest : List ℕ) (number most : ℕ) (p : Position) (found : List AsmFault) → rest ≡ []
-    → Late source rest number p found → AreFirst most (late_faults source) found
+    → FindingLate source rest number p found → AreFirst most (late_faults source) found
 late_end source rest number most p found empty before =
     let all : before.earlier ≡ lines_back source = next_end source rest number before.earlier empty before.next in
     record {
@@ -159,7 +160,7 @@ late_end source rest number most p found empty before =
     }
 
 pub late_full : (source rest : List ℕ) (number most : ℕ) (p : Position) (found : List AsmFault) → length found ≡ most
-    → Late source rest number p found → AreFirst most (late_faults source) found
+    → FindingLate source rest number p found → AreFirst most (late_faults source) found
 late_full source rest number most p found full before =
     let grows = among_grows (late_code (values_of source)) (lines_of rest) before.earlier in
     record {

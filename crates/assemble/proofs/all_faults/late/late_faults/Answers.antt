@@ -1,9 +1,9 @@
 use Rattle.std.proofs.Common.{◌∙◌, ap, arith, subst, sym}
 use Rattle.assemble.specs.Faults.{late_code}
 use Rattle.assemble.specs.SourceLines.{Values}
-use Rattle.source_faults.specs.Positions.{IsWithin}
-use Rattle.source_faults.proofs.Walks.{late_end, late_full, late_start, late_step}
-use Rattle.source_faults.proofs.late.late_faults.Goals as goal
+use Rattle.assemble.specs.Positions.{IsWithin}
+use Rattle.assemble.proofs.AllFaults.{late_end, late_full, late_start, late_step}
+use Rattle.assemble.proofs.all_faults.late.late_faults.Goals as goal
 
 pub loop-line-init : goal.loop-line-init
 loop-line-init c = record {

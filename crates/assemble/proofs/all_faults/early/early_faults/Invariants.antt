@@ -1,11 +1,11 @@
 use Rattle.std.proofs.Common.{length}
-use Rattle.source_faults.specs.Places.{Late}
-use Rattle.source_faults.specs.Positions.{IsWithin}
-use Rattle.source_faults.proofs.late.late_faults.Given as goal
+use Rattle.assemble.specs.Passes.{FindingEarly}
+use Rattle.assemble.specs.Positions.{IsWithin}
+use Rattle.assemble.proofs.all_faults.early.early_faults.Given as goal
 
 abbrev pub invariant-loop-line : goal.invariant-loop-line
 invariant-loop-line l = record {
-  passed : Late l.source l.rest l.number l.position l.found.items;
+  passed : FindingEarly l.source l.rest l.number l.position l.labels l.found.items;
   within : IsWithin l.position;
 }
 

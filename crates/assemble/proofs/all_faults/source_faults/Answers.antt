@@ -1,5 +1,5 @@
-use Rattle.source_faults.proofs.Walks.{early_are_all, some_found}
-use Rattle.source_faults.proofs.source_faults.Goals as goal
+use Rattle.assemble.proofs.AllFaults.{early_are_all, some_found}
+use Rattle.assemble.proofs.all_faults.source_faults.Goals as goal
 
 pub returns-else-is_empty : goal.returns-else-is_empty
 returns-else-is_empty c =

@@ -1,11 +1,11 @@
 use Rattle.std.proofs.Common.{arith, subst, sym}
-use Rattle.source_faults.specs.Positions.{IsWithin}
-use Rattle.source_faults.proofs.Walks.{early_end, early_full, early_start, early_step}
-use Rattle.source_faults.proofs.early.early_faults.Goals as goal
+use Rattle.assemble.specs.Positions.{IsWithin}
+use Rattle.assemble.proofs.AllFaults.{early_end, early_full, early_start, early_step}
+use Rattle.assemble.proofs.all_faults.early.early_faults.Goals as goal
 
 pub loop-line-init : goal.loop-line-init
 loop-line-init c = record {
-  passed = early_start _ _ _ _ c.start-position.ensures c.new-names.ensures c.new-found.ensures.items;
+  passed = early_start _ _ _ _ c.start-position.ensures c.new-labels.ensures c.new-found.ensures.items;
   within = subst IsWithin (sym c.start-position.ensures) (record { text_fits = omega arith; data_fits = omega arith });
 }
 

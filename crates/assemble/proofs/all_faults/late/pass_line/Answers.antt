@@ -1,13 +1,13 @@
 use Rattle.std.proofs.Common.{◌∙◌, sym}
 use Rattle.assemble.specs.Labels.{place_at}
 use Rattle.assemble.specs.Meanings.{line_meaning}
-use Rattle.source_faults.proofs.Placed.{late_is, next_after}
-use Rattle.source_faults.proofs.late.pass_line.Goals as goal
+use Rattle.assemble.proofs.Placed.{late_is, next_after}
+use Rattle.assemble.proofs.all_faults.late.pass_line.Goals as goal
 
 pub returns-in-Ok-after-clause-code : goal.returns-in-Ok-after-clause-code
 returns-in-Ok-after-clause-code c = λ earlier after.
-    late_is (place_at c.args.labels.now) c.args.position.now c.args.text.now (line_meaning c.in-Ok.line) earlier c.place.result c.code_of-code.result
-    c.in-Ok.ensures.ok c.place.ensures c.code_of-code.ensures after
+    late_is (place_at c.args.labels.now) c.args.position.now c.args.text.now (line_meaning c.in-Ok.line) earlier c.place.result c.label_code-code.result
+    c.in-Ok.ensures.ok c.place.ensures c.label_code-code.ensures after
 
 pub returns-in-Ok-after-clause-next : goal.returns-in-Ok-after-clause-next
 returns-in-Ok-after-clause-next c = λ earlier after.

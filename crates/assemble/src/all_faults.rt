@@ -1,19 +1,18 @@
 //! All lines of a source that are at fault, where `assemble` answers the first one.
-#![tactic(auto)]
+
+ghost use Rattle.assemble.specs.AllFaults.{AreFirst, fault_at, faults_of, late_faults};
+ghost use Rattle.assemble.specs.declared.TheConstants.{SOURCE_LIMIT};
+ghost use Rattle.std.specs.Prelude.{◌≡◌, ◌≤◌, ◌<◌, ◌++◌, IfOk, OnOk, length};
 
 mod early;
-mod found;
 mod late;
-mod names;
-mod position;
 
-ghost use Rattle.assemble.specs.declared.TheConstants.{SOURCE_LIMIT};
-ghost use Rattle.source_faults.specs.Faults.{AreFirst, faults_of, late_faults};
-ghost use Rattle.std.specs.Prelude.{◌≤◌, ◌<◌, IfOk, length};
-
-use crate::early::early_faults;
-use crate::late::late_faults;
-use assemble::{AsmFault, source_labels};
+use crate::SOURCE_LIMIT;
+use crate::asm_line::AsmCode;
+use crate::fault::AsmFault;
+use crate::placing::labels_of;
+use early::early_faults;
+use late::late_faults;
 use std::alloc::{AllocError, Global};
 
 /// The first lines of a source that are at fault, upwards, each with its lowest code, and no more than so many.
@@ -39,8 +38,25 @@ fn faults_of_labels(alloc: Global, source: &[u8], most: usize) -> Result<Vec<Asm
     requires { length source.now ≤ SOURCE_LIMIT }
     ensures { IfOk result (λ found. AreFirst most (late_faults source.now) found.items) }
 {
-    match source_labels(alloc, source) {
+    match labels_of(alloc, source) {
         Ok(labels) => late_faults(alloc, source, &labels, most),
         Err(_) => Err(AllocError),
+    }
+}
+
+/// Adds the fault of the line of this number, if it has a code.
+fn push_fault(
+    found: &mut Vec<AsmFault>,
+    line: u32,
+    code: Option<AsmCode>,
+) -> Result<(), AllocError>
+    ensures { OnOk result (found.new.items ≡ found.old.items ++ fault_at line code) }
+{
+    match code {
+        Some(code) => {
+            found.push(AsmFault { line, code })?;
+            Ok(())
+        }
+        None => Ok(()),
     }
 }

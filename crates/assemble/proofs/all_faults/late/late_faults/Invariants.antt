@@ -1,0 +1,13 @@
+use Rattle.std.proofs.Common.{length}
+use Rattle.assemble.specs.Passes.{FindingLate}
+use Rattle.assemble.specs.Positions.{IsWithin}
+use Rattle.assemble.proofs.all_faults.late.late_faults.Given as goal
+
+abbrev pub invariant-loop-line : goal.invariant-loop-line
+invariant-loop-line l = record {
+  passed : FindingLate l.source l.rest l.number l.position l.found.items;
+  within : IsWithin l.position;
+}
+
+abbrev pub decreases-loop-line : goal.decreases-loop-line
+decreases-loop-line l = length l.rest
