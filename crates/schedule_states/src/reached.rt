@@ -1,21 +1,23 @@
 //! States that schedules lead to.
 
-ghost use Rattle.std.specs.Prelude.{◌≡◌, ◌≢◌, ◌⊎◌, ◌<◌, ◌≤◌, ℕ, [], false, true, length, slice_get, None, Some, IfNone, IfOk, IfSome};
+ghost use Rattle.std.specs.Prelude.{◌≡◌, ◌≢◌, ◌⊎◌, ◌++◌, ◌∷◌, ◌<◌, ◌≤◌, ℕ, [], false, true, length, slice_get, None, Some, IfNone, IfOk, IfSome};
 ghost use Rattle.hart.specs.declared.state.Status.TheVariants.{Running};
 ghost use Rattle.machine.specs.Run.{started};
 ghost use Rattle.schedule_states.specs.Covering.{CoversAt, IsClosedAt, IsMet, PartsEndWell};
 ghost use Rattle.schedule_states.specs.Numbers.{AreKept};
-ghost use Rattle.schedule_states.specs.Ending.{AreTurns, AreTurnsAt, HavePartsStopped, IsTurn};
-ghost use Rattle.schedule_states.specs.Happening.{AreLed, HasHappenedAt, IsLedAs};
+ghost use Rattle.schedule_states.specs.Ending.{AreTurnsAt, HavePartsStopped};
+ghost use Rattle.schedule_states.specs.Happening.{AreLed, HasHappenedAt};
 ghost use Rattle.schedule_states.specs.Judging.{IsGoodMoment, StaysGood};
 ghost use Rattle.schedule_states.specs.Leads.{AreOfHarts};
 ghost use Rattle.schedule_states.specs.Media.{AreOnMedium};
+ghost use Rattle.schedule_states.specs.Onward.{AreTurnsFrom, AreTurnsTo, HaveNumber, IsTurnTo, MayHaveOneMore, only};
 ghost use Rattle.schedule_states.specs.Reaching.{AreNumbered, AreNumbersBefore, AreNumbersOf, ArePartsOf, AreThere, HaveGrown, IsFirst, IsKeptOn, WereBefore};
 ghost use Rattle.schedule_states.specs.States.{AreLists};
 ghost use Rattle.schedule_states.specs.Successors.{HasLists};
 ghost use Rattle.schedule_states.specs.Turns.{MayClaim, MayGo, MayNotGo};
 ghost use Rattle.schedule_states.specs.declared.program_state.HartPart.{HartPart as AHartPart};
 ghost use Rattle.schedule_states.specs.declared.program_state.ProgramState.{ProgramState as AProgramState};
+ghost use Rattle.schedule_states.specs.declared.program_state.StateNumbers.{StateNumbers as SomeNumbers};
 
 use crate::laws::{equal_numbers_are_same, equal_parts_are_same, equal_reserved_are_same};
 use crate::leads::{Lead, Leads};
@@ -224,7 +226,7 @@ impl<'a, J: StateJudge> Reached<'a, J> {
     ) -> Result<Result<[u32; 8], Stop>, AllocError>
         requires there { number < length self.old.states }
         requires claims { MayClaim (J.allows judge.now) self.old.parts.claims }
-        requires known { IfSome known (AreTurnsTo (J.stands judge.now) (J.allows judge.now) (J.ends judge.now) self.old number) }
+        requires known { IfSome known (AreTurnsFrom (J.stands judge.now) (J.allows judge.now) (J.ends judge.now) self.old number) }
         ensures closed { IfOk result (λ gone. IfOk gone (λ to. IsClosedAt (J.stands judge.now) (J.allows judge.now) (J.ends judge.now) self.new number)) }
         ensures turns { IfOk result (λ gone. IfOk gone (AreTurnsAt (J.stands judge.now) (J.allows judge.now) self.new number)) }
         ensures led { IfOk result (λ gone. IfOk gone (λ to. AreLed (J.stands judge.now) (J.allows judge.now) self.old →
@@ -243,14 +245,14 @@ impl<'a, J: StateJudge> Reached<'a, J> {
                 Err(stop) => return Ok(Err(stop)),
             },
         };
-        Ok(Ok(self.take_all(number, &turns)?))
+        Ok(Ok(self.take_all(judge, number, &turns)?))
     }
 
     /// What is known of the turns of the harts at a state, where each leads to a state of parts that have numbers already. Many may look at once.
     pub fn known_turns(&self, alloc: Global, judge: &J, number: u32) -> Option<Turns>
         requires there { number < length self.now.states }
         requires claims { MayClaim (J.allows judge.now) self.now.parts.claims }
-        ensures { IfSome result (AreTurnsTo (J.stands judge.now) (J.allows judge.now) (J.ends judge.now) self.now number) }
+        ensures { IfSome result (AreTurnsFrom (J.stands judge.now) (J.allows judge.now) (J.ends judge.now) self.now number) }
     {
         let mut lent = self.lent(alloc);
         let Ok(Ok(turns)) = lent.look(alloc, judge, number) else {
@@ -274,7 +276,7 @@ impl<'a, J: StateJudge> Reached<'a, J> {
 
     /// Whether the turns lead to states of parts that are there.
     fn have_parts(&self, turns: &Turns) -> bool
-        ensures { result ≡ true → (h : ℕ) (numbers : StateNumbers) → slice_get turns.now h ≡ Some (Some numbers) → AreThere self.now numbers }
+        ensures { result ≡ true → (h : ℕ) (numbers : SomeNumbers) → slice_get turns.now h ≡ Some (Some numbers) → AreThere self.now numbers }
     {
         for hart in 0..turns.len() {
             if let Some(numbers) = turns[hart] && !self.is_there(&numbers) {
@@ -303,7 +305,7 @@ impl<'a, J: StateJudge> Reached<'a, J> {
 
     /// Whether this is the number of a hart's part that is there, with its text.
     fn is_part_there(&self, number: u32) -> bool
-        ensures { result ≡ true → (part : HartPart) × (slice_get self.now.hart_parts number ≡ Some part) × (part.text < length self.now.parts.lists) }
+        ensures { result ≡ true → (part : AHartPart) × (slice_get self.now.hart_parts number ≡ Some part) × (part.text < length self.now.parts.lists) }
     {
         match self.hart_parts.as_slice().get(number as usize) {
             Some(part) => self.parts.has_list(part.text),
@@ -320,7 +322,7 @@ impl<'a, J: StateJudge> Reached<'a, J> {
     ) -> Result<Result<Turns, Stop>, AllocError>
         requires there { number < length self.old.states }
         requires claims { MayClaim (J.allows judge.now) self.old.parts.claims }
-        ensures turns { IfOk result (λ looked. IfOk looked (AreTurnsTo (J.stands judge.now) (J.allows judge.now) (J.ends judge.now) self.new number)) }
+        ensures turns { IfOk result (λ looked. IfOk looked (AreTurnsFrom (J.stands judge.now) (J.allows judge.now) (J.ends judge.now) self.new number)) }
         ensures grown { HaveGrown self.old self.new }
         ensures before { WereBefore self.old.parts self.new.parts }
         ensures states { self.new.states ≡ self.old.states }
@@ -356,7 +358,7 @@ impl<'a, J: StateJudge> Reached<'a, J> {
         requires standing { numbers.now.standing < length self.old.standings }
         requires claims { MayClaim (J.allows judge.now) self.old.parts.claims }
         ensures turns { IfOk result (λ looked. IfOk looked (λ turns. (t : J.Standing) → slice_get self.old.standings numbers.now.standing ≡ Some t →
-            LeadTo (J.stands judge.now) (J.allows judge.now) self.new state.now t self.new.harts turns)) }
+            AreTurnsTo (J.stands judge.now) (J.allows judge.now) self.new state.now t self.new.harts turns)) }
         ensures grown { HaveGrown self.old self.new }
         ensures before { WereBefore self.old.parts self.new.parts }
         ensures states { self.new.states ≡ self.old.states }
@@ -372,17 +374,43 @@ impl<'a, J: StateJudge> Reached<'a, J> {
         Ok(Ok(turns))
     }
 
-    /// Goes on to the states to which the turns of the harts lead from the state of a number: those, or that state for a hart that makes none.
-    fn take_all(&mut self, number: u32, turns: &Turns) -> Result<[u32; 8], AllocError> {
+    /// The states to which the turns of the harts lead from the state of a number: that state itself for a hart that makes no request.
+    fn take_all(
+        &mut self,
+        judge: &J,
+        number: u32,
+        turns: &Turns,
+    ) -> Result<[u32; 8], AllocError>
+        requires turns { AreTurnsFrom (J.stands judge.now) (J.allows judge.now) (J.ends judge.now) self.old number turns.now }
+        ensures closed { IfOk result (λ to. IsClosedAt (J.stands judge.now) (J.allows judge.now) (J.ends judge.now) self.new number) }
+        ensures turns { IfOk result (AreTurnsAt (J.stands judge.now) (J.allows judge.now) self.new number) }
+        ensures led { IfOk result (λ to. AreLed (J.stands judge.now) (J.allows judge.now) self.old → AreLed (J.stands judge.now) (J.allows judge.now) self.new) }
+        ensures grown { HaveGrown self.old self.new }
+        ensures parts { self.new.parts ≡ self.old.parts }
+    {
         self.are_numbered();
         let mut to = [number; 8];
-        for hart in 0..self.leads.harts() {
-            if let Some(numbers) = turns[hart as usize] {
-                to[hart as usize] = self.number_of(numbers)?;
-                self.note(Lead { from: number, hart })?;
-            }
+        let harts = self.leads.harts();
+        for hart in 0..harts {
+            let next = self.take(turns[hart as usize])?;
+            to[hart as usize] = next.unwrap_or(number);
+            self.note(Lead { from: number, hart })?;
         }
         Ok(to)
+    }
+
+    /// The number of the state with parts of these numbers, if there is one. It is a new one where the state wasn't reached yet.
+    fn take(&mut self, next: Option<StateNumbers>) -> Result<Option<u32>, AllocError>
+        requires there { IfSome next (AreThere self.old) }
+        ensures number { IfOk result (HaveNumber self.new.states next) }
+        ensures more { MayHaveOneMore self.old.states self.new.states next }
+        ensures grown { HaveGrown self.old self.new }
+        ensures parts { self.new.parts ≡ self.old.parts }
+    {
+        match next {
+            Some(numbers) => Ok(Some(self.number_of(numbers)?)),
+            None => Ok(None),
+        }
     }
 
     /// Whether a hart may go, where what has this number is kept.
@@ -411,7 +439,7 @@ impl<'a, J: StateJudge> Reached<'a, J> {
         requires standing { numbers.now.standing < length self.old.standings }
         requires claims { MayClaim (J.allows judge.now) self.old.parts.claims }
         ensures turn { IfOk result (λ looked. IfOk looked (λ next. (t : J.Standing) → slice_get self.old.standings numbers.now.standing ≡ Some t →
-            LeadsTo (J.stands judge.now) (J.allows judge.now) self.new state.now t hart next)) }
+            IsTurnTo (J.stands judge.now) (J.allows judge.now) self.new state.now t hart next)) }
         ensures grown { HaveGrown self.old self.new }
         ensures before { WereBefore self.old.parts self.new.parts }
         ensures states { self.new.states ≡ self.old.states }
@@ -456,6 +484,16 @@ impl<'a, J: StateJudge> Reached<'a, J> {
         standing: u32,
         before: Before<'_>,
     ) -> Result<StateNumbers, AllocError>
+        requires count { length state.now.harts.items ≡ self.old.harts }
+        requires lists { HasLists self.old.parts state.now }
+        requires standing { standing < length self.old.standings }
+        requires before { AreNumbersBefore self.old.hart_parts before.parts.now before.numbers.now before.moved state.now.harts.items }
+        ensures met { IfOk result (λ numbers. (t : J.Standing) → slice_get self.old.standings standing ≡ Some t → IsMet (only self.new numbers) 0 state.now t) }
+        ensures there { IfOk result (AreThere self.new) }
+        ensures grown { HaveGrown self.old self.new }
+        ensures states { self.new.states ≡ self.old.states }
+        ensures parts { self.new.parts ≡ self.old.parts }
+        ensures standings { self.new.standings ≡ self.old.standings }
     {
         let harts = numbers_of(&mut self.hart_parts, &state.harts, before)?;
         Ok(StateNumbers {
@@ -467,6 +505,12 @@ impl<'a, J: StateJudge> Reached<'a, J> {
 
     /// The number of the state with parts of these numbers, which is a new one where it wasn't reached yet.
     fn number_of(&mut self, numbers: StateNumbers) -> Result<u32, AllocError>
+        requires there { AreThere self.old numbers }
+        ensures number { IfOk result (λ number. slice_get self.new.states number ≡ Some numbers) }
+        ensures more { (self.new.states ≡ self.old.states) ⊎ (self.new.states ≡ self.old.states ++ numbers ∷ []) }
+        ensures grown { HaveGrown self.old self.new }
+        ensures parts { self.new.parts ≡ self.old.parts }
+        ensures standings { self.new.standings ≡ self.old.standings }
     {
         equal_numbers_are_same();
         self.states.number_of(numbers)
