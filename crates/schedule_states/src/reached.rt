@@ -1,6 +1,6 @@
 //! States that schedules lead to.
 
-ghost use Rattle.std.specs.Prelude.{◌≡◌, ◌≢◌, ◌⊎◌, ◌++◌, ◌∷◌, ◌<◌, ◌≤◌, ℕ, [], false, true, length, slice_get, None, Some, IfNone, IfOk, IfSome};
+ghost use Rattle.std.specs.Prelude.{◌≡◌, ◌≢◌, ◌⊎◌, ◌++◌, ◌∷◌, ◌<◌, ◌≤◌, ℕ, [], false, true, length, slice_get, slice_index_or, None, Some, IfNone, IfOk, IfSome};
 ghost use Rattle.hart.specs.declared.state.Status.TheVariants.{Running};
 ghost use Rattle.machine.specs.Run.{started};
 ghost use Rattle.schedule_states.specs.Covering.{CoversAt, IsClosedAt, IsMet, PartsEndWell};
@@ -238,14 +238,32 @@ impl<'a, J: StateJudge> Reached<'a, J> {
     {
         self.are_numbered();
         self.parts.lists_are_there();
-        let turns = match known {
-            Some(turns) => turns,
-            None => match self.look(alloc, judge, number)? {
-                Ok(turns) => turns,
-                Err(stop) => return Ok(Err(stop)),
-            },
-        };
-        Ok(Ok(self.take_all(judge, number, &turns)?))
+        match self.turns_from(alloc, judge, number, known)? {
+            Ok(turns) => Ok(Ok(self.take_all(judge, number, &turns)?)),
+            Err(stop) => Ok(Err(stop)),
+        }
+    }
+
+    /// To what the turns of the harts lead from a state: as it is known, or else by a look.
+    fn turns_from(
+        &mut self,
+        alloc: Global,
+        judge: &J,
+        number: u32,
+        known: Option<Turns>,
+    ) -> Result<Result<Turns, Stop>, AllocError>
+        requires there { number < length self.old.states }
+        requires claims { MayClaim (J.allows judge.now) self.old.parts.claims }
+        requires known { IfSome known (AreTurnsFrom (J.stands judge.now) (J.allows judge.now) (J.ends judge.now) self.old number) }
+        ensures turns { IfOk result (λ looked. IfOk looked (AreTurnsFrom (J.stands judge.now) (J.allows judge.now) (J.ends judge.now) self.new number)) }
+        ensures grown { HaveGrown self.old self.new }
+        ensures before { WereBefore self.old.parts self.new.parts }
+        ensures states { self.new.states ≡ self.old.states }
+    {
+        match known {
+            Some(turns) => Ok(Ok(turns)),
+            None => self.look(alloc, judge, number),
+        }
     }
 
     /// What is known of the turns of the harts at a state, where each leads to a state of parts that have numbers already. Many may look at once.
@@ -276,14 +294,24 @@ impl<'a, J: StateJudge> Reached<'a, J> {
 
     /// Whether the turns lead to states of parts that are there.
     fn have_parts(&self, turns: &Turns) -> bool
-        ensures { result ≡ true → (h : ℕ) (numbers : SomeNumbers) → slice_get turns.now h ≡ Some (Some numbers) → AreThere self.now numbers }
+        ensures { result ≡ true → (h : ℕ) → h < length turns.now → IfSome (slice_index_or turns.now h None) (AreThere self.now) }
     {
         for hart in 0..turns.len() {
-            if let Some(numbers) = turns[hart] && !self.is_there(&numbers) {
+            if !self.has_parts(&turns[hart]) {
                 return false;
             }
         }
         true
+    }
+
+    /// Whether a turn leads to a state of parts that are there, if it leads to one.
+    fn has_parts(&self, next: &Option<StateNumbers>) -> bool
+        ensures { result ≡ true → IfSome next.now (AreThere self.now) }
+    {
+        match next {
+            Some(numbers) => self.is_there(numbers),
+            None => true,
+        }
     }
 
     /// Whether the numbers are those of parts that are there.
@@ -365,7 +393,8 @@ impl<'a, J: StateJudge> Reached<'a, J> {
     {
         self.are_numbered();
         let mut turns = [None; 8];
-        for hart in 0..self.leads.harts() {
+        let harts = self.leads.harts();
+        for hart in 0..harts {
             match self.turn(alloc, judge, state, numbers, hart)? {
                 Ok(next) => turns[hart as usize] = next,
                 Err(stop) => return Ok(Err(stop)),
@@ -460,8 +489,8 @@ impl<'a, J: StateJudge> Reached<'a, J> {
                     numbers: &numbers.harts,
                     moved: hart,
                 };
-                let numbers = self.numbers_for(&next, standing, before)?;
-                Ok(Ok(Some(numbers)))
+                let to = self.numbers_for(&next, standing, before)?;
+                Ok(Ok(Some(to)))
             }
             Successor::Stopped => Ok(Ok(None)),
             Successor::TooLong => Ok(Err(Stop::TooLong(hart))),

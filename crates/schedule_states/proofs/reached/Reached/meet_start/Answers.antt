@@ -27,8 +27,8 @@ invariant_of-self-2 g c =
     (record { parts = c.self.inside.parts; hart_parts = c.self.inside.hart_parts; standings = c.self.inside.standings; states = c.self.inside.states; harts = c.self.inside.leads })
     c.self.inside.parts c.first_standing.new.known same c.first_standing.ensures.kept c.self.invariant
 
-pub number_of-requires-clause-standing : goal.number_of-requires-clause-standing
-number_of-requires-clause-standing g c =
+pub numbers_for-requires-clause-standing : goal.numbers_for-requires-clause-standing
+numbers_for-requires-clause-standing g c =
     slice_get_within c.first_standing.new.known c.in_ok-standing.standing c.in_ok-standing.ensures.first.0 c.in_ok-standing.ensures.first.1
 
 pub returns-clause-start : goal.returns-clause-start
