@@ -19,7 +19,7 @@ use Rattle.schedule_states.specs.Claims.{claim_in}
 use Rattle.schedule_states.specs.Covering.{CoversAt, IsMet, IsTaken, ReachedView, StandsAs}
 use Rattle.schedule_states.specs.Ending.{IsTurn, IsWayTo, LeadsTo}
 use Rattle.schedule_states.specs.Happening.{AreLed, IsLed, IsLedAs, IsLedTo}
-use Rattle.schedule_states.specs.Onward.{AreTurnsFrom, AreTurnsTo, HaveNumber, IsTurnTo, LeadsToParts, MayHaveOneMore, only}
+use Rattle.schedule_states.specs.Onward.{AreKnownFrom, AreTurnsFrom, AreTurnsTo, HaveNumber, IsTurnTo, LeadsToParts, MayHaveOneMore, only}
 use Rattle.schedule_states.specs.Reaching.{AreNumbered, AreThere, HaveGrown, WereBefore}
 use Rattle.schedule_states.specs.StartLines.{StartView}
 use Rattle.schedule_states.specs.States.{PartsView, StandsFor}
@@ -280,3 +280,21 @@ turns_from_before stands allows ends old new n turns are grown before there part
   turns_are = λ h few. turn_to_before stands allows old new from.state from.standing h (slice_index_or turns h None) are.few
       (λ numbers is. parts h numbers is) grown before (from.turns_are h (omega (arith, few, grown.harts)));
 }
+
+-- turns that are known of states behind one another
+pub known_none : {T : Type 0} (stands : T → List Event → Type 0) (allows : List Event → ℕ → Type 0) (ends : Status → Type 0) (r : ReachedView T) (first : ℕ)
+    (known : List (Option (List (Option StateNumbers)))) → known ≡ [] → AreKnownFrom stands allows ends r first known
+known_none stands allows ends r first known none n turns found =
+    let here : slice_get [] n ≡ Some (Some turns) = rw none at found in absurd cc
+
+pub known_kept : {T : Type 0} (stands : T → List Event → Type 0) (allows : List Event → ℕ → Type 0) (ends : Status → Type 0) (old new : ReachedView T) (first : ℕ)
+    (known : List (Option (List (Option StateNumbers)))) → AreNumbered old → HaveGrown old new → WereBefore old.parts new.parts → AreKnownFrom stands allows ends old first known →
+    AreKnownFrom stands allows ends new first known
+known_kept stands allows ends old new first known are grown before is n turns found = turns_from_kept stands allows ends old new (first + n) turns are grown before (is n turns found)
+
+pub known_of : {T : Type 0} (stands : T → List Event → Type 0) (allows : List Event → ℕ → Type 0) (ends : Status → Type 0) (r : ReachedView T) (first number : ℕ)
+    (known : List (Option (List (Option StateNumbers)))) (found : Option (List (Option StateNumbers))) → AreKnownFrom stands allows ends r first known →
+    IfSome found (λ turns. (n : ℕ) × (first + n ≡ number) × (slice_get known n ≡ Some (Some turns))) → IfSome found (AreTurnsFrom stands allows ends r number)
+known_of stands allows ends r first number known (Some turns) is at =
+    subst (λ (k : ℕ). AreTurnsFrom stands allows ends r k turns) at.1 (is at.0 turns at.2)
+known_of stands allows ends r first number known None is at = tt

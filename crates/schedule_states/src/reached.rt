@@ -323,7 +323,8 @@ impl<'a, J: StateJudge> Reached<'a, J> {
         {
             return false;
         }
-        for hart in 0..self.leads.harts() {
+        let count = self.leads.harts();
+        for hart in 0..count {
             if !self.is_part_there(numbers.harts[hart as usize]) {
                 return false;
             }
