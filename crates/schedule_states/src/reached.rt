@@ -276,7 +276,11 @@ impl<'a, J: StateJudge> Reached<'a, J> {
         let Ok(Ok(turns)) = lent.look(alloc, judge, number) else {
             return None;
         };
-        if self.have_parts(&turns) { Some(turns) } else { None }
+        if self.have_parts(&turns) {
+            Some(turns)
+        } else {
+            None
+        }
     }
 
     /// The same states, lent for a look: what has no number there gets none, as if memory were refused for it.
@@ -405,12 +409,7 @@ impl<'a, J: StateJudge> Reached<'a, J> {
     }
 
     /// The states to which the turns of the harts lead from the state of a number: that state itself for a hart that makes no request.
-    fn take_all(
-        &mut self,
-        judge: &J,
-        number: u32,
-        turns: &Turns,
-    ) -> Result<[u32; 8], AllocError>
+    fn take_all(&mut self, judge: &J, number: u32, turns: &Turns) -> Result<[u32; 8], AllocError>
         requires turns { AreTurnsFrom (J.stands judge.now) (J.allows judge.now) (J.ends judge.now) self.old number turns.now }
         ensures closed { IfOk result (λ to. IsClosedAt (J.stands judge.now) (J.allows judge.now) (J.ends judge.now) self.new number) }
         ensures turns { IfOk result (AreTurnsAt (J.stands judge.now) (J.allows judge.now) self.new number) }

@@ -162,11 +162,11 @@ returns-in_ok-to-in-State-clause-turn g c = λ t kept.
             standing = next.0;
             met = met;
             led_as = led_next (g.J.StateJudge.stands c.args.judge.now) (g.J.StateJudge.allows c.args.judge.now) (only old c.in_ok-to-in-State.to) to c.in-State.next next.0 turned.end
-            (only_grown old c.numbers_for.new.self c.in_ok-to-in-State.to grown)
-            (led_on_own (g.J.StateJudge.allows c.args.judge.now) c.self.inside.parts.claims (started old.parts.table.start.program old.parts.table.start.medium old.harts) c.args.hart turned.steps on.next
-            turned.end free turned.none on.led turned.goes)
-            (turned_as (g.J.StateJudge.stands c.args.judge.now) c.self.inside.parts c.after_request.new.self to c.in-State.next t next.0 c.args.hart c.in-State.mark on.ready on.next on.asks
-            (λ x es event plain. g.met.J.StateJudge.unmarked c.args.judge.now x es event plain) c.numbers_for.ensures.parts next.2 stood turned);
+                (only_grown old c.numbers_for.new.self c.in_ok-to-in-State.to grown)
+                (led_on_own (g.J.StateJudge.allows c.args.judge.now) c.self.inside.parts.claims (started old.parts.table.start.program old.parts.table.start.medium old.harts) c.args.hart turned.steps on.next
+                turned.end free turned.none on.led turned.goes)
+                (turned_as (g.J.StateJudge.stands c.args.judge.now) c.self.inside.parts c.after_request.new.self to c.in-State.next t next.0 c.args.hart c.in-State.mark on.ready on.next on.asks
+                (λ x es event plain. g.met.J.StateJudge.unmarked c.args.judge.now x es event plain) c.numbers_for.ensures.parts next.2 stood turned);
           };
     }
 
