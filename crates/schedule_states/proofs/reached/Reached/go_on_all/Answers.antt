@@ -1,4 +1,4 @@
-use Rattle.std.proofs.Common.{◌≡◌, subst}
+use Rattle.std.proofs.Common.{◌≡◌, List, sym, subst}
 use Rattle.std.proofs.lemmas.Result.{IfOk-weaker}
 use Rattle.schedule_states.proofs.Closing.{before_twice, closed_still, grown_twice}
 use Rattle.schedule_states.proofs.Happening.{led_grown}
