@@ -1,5 +1,5 @@
 -- A line's tokens, and its lexemes.
-use Rattle.std.proofs.Common.{◌≡◌, ℕ, suc, ◌<◌, Bool, false, ◌&&◌, List, [], ◌∷◌, length, get_or, map, refl, arith}
+use Rattle.std.proofs.Common.{◌≡◌, ℕ, Bool, false, ◌&&◌, List, [], ◌∷◌, map, refl}
 use Rattle.std.specs.Prelude.{Some, None, Option, is_some, true}
 use Rattle.std.specs.List.{list_all}
 use Rattle.asm_lex.specs.Pieces.{pieces}

@@ -1,9 +1,8 @@
 -- The lines that hold a source's text, from the bytes of text through each.
-use Rattle.std.proofs.Common.{◌≡◌, ℕ, ◌+◌, ◌-◌, ◌<◌, ◌≤◌, Bool, true, false, List, [], ◌∷◌, ◌++◌, length, get_or, refl, sym, ap, subst, ◌∙◌, arith, leb, leb-true, leb-false, le-leb, lt-ltb, le-ltb, add-zero, add-one, inl, inr}
+use Rattle.std.proofs.Common.{◌≡◌, ℕ, ◌+◌, ◌-◌, ◌<◌, ◌≤◌, Bool, true, false, List, [], ◌∷◌, ◌++◌, length, get_or, refl, sym, ap, ◌∙◌, arith, leb, leb-true, leb-false, le-leb, lt-ltb, le-ltb, add-zero, add-one, inl, inr}
 use Rattle.std.proofs.lemmas.Bool.{cases_lt, lt-leb}
 use Rattle.std.proofs.lemmas.Bool.Decides.{nat_tests}
-use Rattle.std.specs.Prelude.{All, Some, None, Option, nat_lt, nat_le, ◌&&◌, ◌==◌, if◌then◌else◌}
-use Rattle.std.specs.List.{position_or_len}
+use Rattle.std.specs.Prelude.{All, Some, None, nat_lt, nat_le, ◌&&◌, ◌==◌, if◌then◌else◌}
 use Rattle.std.specs.List.Sorted.{IsNonDecreasingBy, IsPartitionPoint, IsPartitionedBy}
 use Rattle.std.proofs.lemmas.List.{length-append}
 use Rattle.std.proofs.lemmas.List.Folds.{position_or_len_push}
@@ -19,12 +18,12 @@ use Rattle.assemble.specs.declared.TheConstants.{SOURCE_LIMIT}
 use Rattle.assemble.specs.declared.labels.Labels.{Labels}
 use Rattle.assemble.specs.declared.position.Position.{Position}
 use Rattle.assemble.specs.Places.{base_of, meaning_in, place_after, section_after, share, size_at, size_of}
-use Rattle.assemble.specs.Faults.{IsFirst, NoneHas, code_of_said, early_code}
+use Rattle.assemble.specs.Faults.{IsFirst, code_of_said, early_code}
 use Rattle.assemble.specs.Assembly.{lines_back}
 use Rattle.assemble.specs.Labels.{place_at}
 use Rattle.assemble.specs.LineNumbers.{Numbering, holds_text, is_text, line_number, lines_before, number_at, number_from, text_ends}
 use Rattle.assemble.specs.Positions.{start}
-use Rattle.assemble.specs.Passes.{IsNext, IsPlaced}
+use Rattle.assemble.specs.Passes.{IsPlaced}
 use Rattle.assemble.proofs.First.{next_start, next_step, next_end, next_first, early_none, early_some}
 use Rattle.assemble.proofs.FirstPass.{placed_none}
 use Rattle.assemble.proofs.Placed.{size_next}

@@ -1,4 +1,4 @@
-use Rattle.std.proofs.Common.{arith, [], ◌∷◌}
+use Rattle.std.proofs.Common.{arith}
 use Rattle.std.proofs.lemmas.Grind.{common_steps}
 use Rattle.assemble.specs.Grammar.{memory_place}
 use Rattle.assemble.proofs.asm_line.operands.name_place.Goals as goal
