@@ -1,8 +1,9 @@
-use Rattle.std.proofs.Common.{◌∙◌, ap, arith, subst, sym}
+use Rattle.std.proofs.Common.{◌∙◌, ap, arith, refl, subst, sym}
 use Rattle.assemble.specs.Faults.{late_code}
 use Rattle.assemble.specs.SourceLines.{Values}
 use Rattle.assemble.specs.Positions.{IsWithin}
 use Rattle.assemble.proofs.AllFaults.{late_end, late_full, late_start, late_step}
+use Rattle.assemble.proofs.SecondPass.{labels_near}
 use Rattle.assemble.proofs.all_faults.late.late_faults.Goals as goal
 
 pub loop-line-init : goal.loop-line-init
@@ -10,6 +11,9 @@ loop-line-init c = record {
   passed = late_start _ _ _ c.start-position.ensures c.new-found.ensures.items;
   within = subst IsWithin (sym c.start-position.ensures) (record { text_fits = omega arith; data_fits = omega arith });
 }
+
+pub pass_line-requires-clause-labels_near : goal.pass_line-requires-clause-labels_near
+pass_line-requires-clause-labels_near c = labels_near _ _ _ c.requires.labels_are refl c.requires.none
 
 pub loop-line-preserved : goal.loop-line-preserved
 loop-line-preserved c = record {
