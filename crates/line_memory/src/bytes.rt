@@ -26,15 +26,22 @@ pub fn load_bytes(bytes: &[u8], at: usize, width: usize) -> u64
     }
 }
 
-/// Writes the low `width` bytes of `value` from place `at` on.
+/// Writes the low `width` bytes of `value` from place `at` on. The usual widths have an arm each, so that no copy of a length that the compiler
+/// doesn't know stands on their way.
 #[tactic(auto, using(crate::proofs::Numbers::front_of_bytes))]
+#[inline(always)]
 pub fn store_bytes(bytes: &mut [u8], at: usize, width: usize, value: u64)
     requires fits { at + width ≤ length bytes.old }
     requires few { width ≤ 8 }
     ensures { bytes.new ≡ stored bytes.old at width value }
 {
     let all = value.to_le_bytes();
-    replace_bytes(bytes, at, &all[..width]);
+    match width {
+        8 => replace_bytes(bytes, at, &all),
+        4 => replace_bytes(bytes, at, &all[..4]),
+        1 => replace_bytes(bytes, at, &all[..1]),
+        _ => replace_bytes(bytes, at, &all[..width]),
+    }
 }
 
 /// Whether an access of this width may begin at a place. No division: it stands on the way of every load and store.

@@ -4,13 +4,16 @@ use Rattle.std.proofs.lemmas.Bool.{cases_lt}
 use Rattle.std.proofs.lemmas.List.{replicate_more}
 use Rattle.std.proofs.lemmas.Option.{slice_get-get_or, slice_get_within}
 use Rattle.hart.specs.declared.need.Reply.{Reply}
+use Rattle.hart.specs.declared.need.Reply.TheVariants.{Value, Done, Fault}
+use Rattle.line_memory.specs.declared.TheConstants.{PERSISTENT_BASE}
+use Rattle.std.specs.Prelude.{Bool, false, not, nat_le}
 use Rattle.hart.specs.declared.need.Request.{Request}
 use Rattle.hart.specs.declared.need.Request.TheVariants.{Load, Store, Lr, Sc, Amo, Cbo, Fence, FenceI, Begin, End}
 use Rattle.hart.specs.declared.state.HartState.{HartState}
 use Rattle.line_memory.specs.Memory.{Memory}
 use Rattle.machine.proofs.Determined.{runs_once}
 use Rattle.machine.proofs.Stepping.{goes_on_alone, goes_on_answered}
-use Rattle.machine.specs.QuietSteps.{AreQuietSteps, IsQuietStep, RunsBeforeEach, is_load}
+use Rattle.machine.specs.QuietSteps.{AreQuietSteps, IsQuietStep, RunsBeforeEach, is_quiet}
 use Rattle.machine.specs.Represents.{MachineView, RunsBoth, copies_after, copy_of}
 use Rattle.machine.specs.Run.{RunsTo}
 use Rattle.machine.specs.RunLaws.{both_more, both_none}
@@ -36,32 +39,38 @@ put_got [] h s inside = absurd (omega arith)
 put_got (t ∷ harts) zero s inside = refl
 put_got (t ∷ harts) (suc h) s inside = put_got harts h s (omega arith)
 
--- a load leaves the copies, and makes no event
-copies_kept : (copies : List (List ℕ)) (h : ℕ) (request : Request) (text : List ℕ) → is_load request ≡ true → copies_after copies h request text ≡ copies
-copies_kept copies h (Load address width) text load = refl
-copies_kept copies h (Store address width value) text load = absurd (cc)
-copies_kept copies h (Lr address width) text load = absurd (cc)
-copies_kept copies h (Sc address width value) text load = absurd (cc)
-copies_kept copies h (Amo op address width operand) text load = absurd (cc)
-copies_kept copies h (Cbo op address) text load = absurd (cc)
-copies_kept copies h Fence text load = absurd (cc)
-copies_kept copies h FenceI text load = absurd (cc)
-copies_kept copies h (Begin op) text load = absurd (cc)
-copies_kept copies h (End op) text load = absurd (cc)
+-- what makes no event leaves the copies
+copies_kept : (copies : List (List ℕ)) (h : ℕ) (request : Request) (text : List ℕ) → is_quiet request ≡ true → copies_after copies h request text ≡ copies
+copies_kept copies h (Load address width) text quiet = refl
+copies_kept copies h (Store address width value) text quiet = refl
+copies_kept copies h (Lr address width) text quiet = absurd (cc)
+copies_kept copies h (Sc address width value) text quiet = absurd (cc)
+copies_kept copies h (Amo op address width operand) text quiet = absurd (cc)
+copies_kept copies h (Cbo op address) text quiet = absurd (cc)
+copies_kept copies h Fence text quiet = absurd (cc)
+copies_kept copies h FenceI text quiet = absurd (cc)
+copies_kept copies h (Begin op) text quiet = absurd (cc)
+copies_kept copies h (End op) text quiet = absurd (cc)
 
-no_event : (h : ℕ) (request : Request) (reply : Reply) → is_load request ≡ true → events_of h request reply ≡ []
-no_event h (Load address width) reply load = refl
-no_event h (Store address width value) reply load = absurd (cc)
-no_event h (Lr address width) reply load = absurd (cc)
-no_event h (Sc address width value) reply load = absurd (cc)
-no_event h (Amo op address width operand) reply load = absurd (cc)
-no_event h (Cbo op address) reply load = absurd (cc)
-no_event h Fence reply load = absurd (cc)
-no_event h FenceI reply load = absurd (cc)
-no_event h (Begin op) reply load = absurd (cc)
-no_event h (End op) reply load = absurd (cc)
+not_true : (b : Bool) → not b ≡ true → b ≡ false
+not_true true h = cc
+not_true false h = refl
 
--- the machine with another state of hart h, and after what it has loaded
+no_event : (h : ℕ) (request : Request) (reply : Reply) → is_quiet request ≡ true → events_of h request reply ≡ []
+no_event h (Load address width) reply quiet = refl
+no_event h (Store address width value) (Value v) quiet = refl
+no_event h (Store address width value) Done quiet = rw (not_true (nat_le PERSISTENT_BASE address) quiet) refl
+no_event h (Store address width value) (Fault fault) quiet = refl
+no_event h (Lr address width) reply quiet = absurd (cc)
+no_event h (Sc address width value) reply quiet = absurd (cc)
+no_event h (Amo op address width operand) reply quiet = absurd (cc)
+no_event h (Cbo op address) reply quiet = absurd (cc)
+no_event h Fence reply quiet = absurd (cc)
+no_event h FenceI reply quiet = absurd (cc)
+no_event h (Begin op) reply quiet = absurd (cc)
+no_event h (End op) reply quiet = absurd (cc)
+
+-- the machine with another state of hart h, and after its accesses
 abbrev pub with_both : MachineView → ℕ → HartState → SharedView → MachineView
 with_both m h s shared = record m { harts = slice_set m.harts h s; shared = shared }
 
@@ -69,9 +78,9 @@ quiet_step : (m : MachineView) (h : ℕ) (s t : HartState) (shared : SharedView)
     → IsQuietStep (copy_of m h) h s t m.shared shared → RunsBoth m (with_both m h t shared) (Hart h ∷ [])
 quiet_step m h s t shared few each there step = elim step.made [
   | inl alone ↦ goes_on_alone m (with_both m h t shared) h s t there step.running alone.0 (rw alone.1 refl)
-  | inr loads ↦
-      goes_on_answered m (with_both m h t shared) shared h s t loads.instr loads.request few each there step.running loads.needs loads.spelled
-      loads.answers (rw (copies_kept m.copies h loads.request shared.ram.text loads.load) refl)
+  | inr accesses ↦
+      goes_on_answered m (with_both m h t shared) shared h s t accesses.instr accesses.request few each there step.running accesses.needs accesses.spelled
+      accesses.answers (rw (copies_kept m.copies h accesses.request shared.ram.text accesses.quiet) refl)
 ]
 
 module _ (m : MachineView) (h : ℕ) (s : HartState) (few : h < 8) (each : length m.copies ≡ length m.harts) (there : slice_get m.harts h ≡ Some s) where
@@ -116,11 +125,11 @@ step_keeps : (text : Memory) (h : ℕ) (s t : HartState) (old new : SharedView) 
     → (new.trace ≡ old.trace) × (length new.cache.lines ≡ length old.cache.lines)
 step_keeps text h s t old new step = elim step.made [
   | inl alone ↦ (ap (λ (shared : SharedView). shared.trace) alone.1, ap (λ (shared : SharedView). length shared.cache.lines) alone.1)
-  | inr loads ↦ (
-    loads.answers.serves.trace
-        ∙ ap (λ (events : List Event). old.trace ++ events) (no_event h loads.request loads.answers.reply loads.load)
+  | inr accesses ↦ (
+    accesses.answers.serves.trace
+        ∙ ap (λ (events : List Event). old.trace ++ events) (no_event h accesses.request accesses.answers.reply accesses.quiet)
         ∙ append-nil old.trace,
-    loads.answers.serves.steps.1.sizes.lines,
+    accesses.answers.serves.steps.1.sizes.lines,
   )
 ]
 

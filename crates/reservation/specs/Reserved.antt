@@ -20,6 +20,10 @@ is_reserved h l (Taken hart ∷ before) = if eqb hart h then false else is_reser
 abbrev pub Agrees : List (Option ℕ) → List Call → Type 0
 Agrees words calls = (h l : ℕ) → h < 8 → (slice_get words h ≡ Some (Some l)) ↔ IsTrue (is_reserved h l calls)
 
+-- no word names a line
+abbrev pub AreFree : List (Option ℕ) → Type 0
+AreFree words = (k l : ℕ) → ¬ (slice_get words k ≡ Some (Some l))
+
 -- the words change as one more call asks: after any calls that the old ones agree with
 pub record Follows (old new : List (Option ℕ)) (call : Call) : Type 0 where
   pub agrees : (calls : List Call) → Agrees old calls → Agrees new (call ∷ calls)

@@ -19,14 +19,19 @@ const HARTS: usize = 8;
 #[derive(Drop)]
 pub struct Reservations {
     lines: [Option<u32>; HARTS],
+    /// Whether a hart has reserved a line at all. Most programs have no LR, and then a store looks at no hart's line.
+    used: bool,
 }
 
 impl Model for Reservations {
-    ghost use Rattle.std.specs.Prelude.{ℕ, List, Option};
+    ghost use Rattle.reservation.specs.Reserved.{AreFree};
+    ghost use Rattle.std.specs.Prelude.{◌≡◌, ℕ, List, Option, false};
 
     ghost Value = { List (Option ℕ) };
 
     ghost view = { λ r. r.lines };
+
+    ghost invariant = { λ r. r.used ≡ false → AreFree r.lines };
 }
 
 impl Reservations {
@@ -36,6 +41,7 @@ impl Reservations {
     {
         Reservations {
             lines: [None; HARTS],
+            used: false,
         }
     }
 
@@ -45,15 +51,17 @@ impl Reservations {
         ensures { Follows self.old self.new (Reserved hart line) }
     {
         self.lines[hart as usize] = Some(line);
+        self.used = true;
     }
 
     /// The hart has written to the line, which ends every other hart's reservation of it.
+    #[inline(always)]
     pub fn stored(&mut self, hart: u32, line: u32)
         requires { hart < 8 }
         ensures { Follows self.old self.new (Stored hart line) }
     {
-        for other in 0..HARTS {
-            end_one(&mut self.lines, other, hart as usize, line);
+        if self.used {
+            end_others(&mut self.lines, hart as usize, line);
         }
     }
 
@@ -64,6 +72,15 @@ impl Reservations {
         ensures ended { Follows self.old self.new (Taken hart) }
     {
         self.lines[hart as usize].take() == Some(line)
+    }
+}
+
+/// Ends each other hart's reservation of the line that a hart has written to.
+fn end_others(lines: &mut [Option<u32>; HARTS], hart: usize, line: u32)
+    ensures { Follows lines.old lines.new (Stored hart line) }
+{
+    for other in 0..HARTS {
+        end_one(lines, other, hart, line);
     }
 }
 

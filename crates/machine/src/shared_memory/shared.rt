@@ -188,6 +188,28 @@ impl Shared {
         reply
     }
 
+    /// Serves a hart's store below persistent memory, which is never refused.
+    #[inline(always)]
+    pub fn store_below(&mut self, hart: u32, address: u64, width: u32, value: u64) -> Reply
+        requires hart { hart < 8 }
+        requires width { IsWidth width }
+        requires below { address < PERSISTENT_BASE }
+        ensures serves { Serves self.old self.new hart (Request.Store address width value) result }
+        ensures limit { length self.new.trace ≤ 65536 }
+    {
+        let reply = match self.place(address, width) {
+            Ok(Place::Ram(place)) => {
+                self.write_to_ram(hart, address, place, width, value);
+                Reply::Done
+            }
+            Ok(Place::Persistent(_)) => unreachable!(),
+            Err(fault) => Reply::Fault(access_fault(fault)),
+        };
+        // a look at the trace, for its limit to be known
+        let _ = &self.trace;
+        reply
+    }
+
     fn store(&mut self, hart: u32, address: u64, width: u32, value: u64) -> Result<Reply, StepFault>
         requires hart { hart < 8 }
         requires width { IsWidth width }
@@ -447,6 +469,7 @@ impl Shared {
         Ok(())
     }
 
+    #[inline(always)]
     fn write_to_ram(&mut self, hart: u32, address: u64, place: RamPlace, width: u32, value: u64)
         requires hart { hart < 8 }
         requires width { IsWidth width }

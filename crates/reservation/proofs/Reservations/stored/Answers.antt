@@ -1,13 +1,5 @@
-use Rattle.std.proofs.Common.{arith}
-use Rattle.reservation.proofs.Ended.{one_more, all_ended}
+use Rattle.reservation.proofs.Ended.{none_ended}
 use Rattle.reservation.proofs.Reservations.stored.Goals as goal
 
-pub loop-other-preserved : goal.loop-other-preserved
-loop-other-preserved c =
-    one_more c.loop-other.other c.args.hart c.args.line c.args.self.now c.loop-other.self-inside.lines c.end_one.new.lines
-    c.loop-other.invariant c.end_one.ensures
-
-pub returns : goal.returns
-returns c =
-    all_ended c.loop-other.other c.args.hart c.args.line c.args.self.now c.loop-other.self-inside.lines (omega arith)
-    c.loop-other.invariant
+pub returns-else-self : goal.returns-else-self
+returns-else-self c = none_ended c.args.hart c.args.line c.args.self.now (rw c.self.view_is at (c.self.invariant c.if-self.false))
