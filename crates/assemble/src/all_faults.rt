@@ -45,11 +45,7 @@ fn faults_of_labels(alloc: Global, source: &[u8], most: usize) -> Result<Vec<Asm
 }
 
 /// Adds the fault of the line of this number, if it has a code.
-fn push_fault(
-    found: &mut Vec<AsmFault>,
-    line: u32,
-    code: Option<AsmCode>,
-) -> Result<(), AllocError>
+fn push_fault(found: &mut Vec<AsmFault>, line: u32, code: Option<AsmCode>) -> Result<(), AllocError>
     ensures { OnOk result (found.new.items ≡ found.old.items ++ fault_at line code) }
 {
     match code {
