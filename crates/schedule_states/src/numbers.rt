@@ -1,6 +1,6 @@
 //! Values, each once, by its number.
 
-ghost use Rattle.std.specs.Prelude.{◌≡◌, ◌⊎◌, ◌++◌, ◌∷◌, [], IfOk};
+ghost use Rattle.std.specs.Prelude.{◌≡◌, ◌⊎◌, ◌+◌, ◌++◌, ◌∷◌, [], length, IfOk};
 ghost use Rattle.schedule_states.specs.Numbers.{AreKept, HasNumber};
 
 use indexmap::IndexSet;
@@ -39,6 +39,13 @@ impl<T: Eq + Hash + Drop> Numbers<T> {
         self.values.as_slice()
     }
 
+    /// How many values there are.
+    pub fn count(&self) -> usize
+        ensures { result ≡ length self.now }
+    {
+        self.as_slice().len()
+    }
+
     /// The number of a value, which is a new one where it has none yet. Over 2^32 values count as out of memory.
     #[tactic(auto, using(crate::proofs::Looking::inserted, crate::proofs::Looking::kept_inserted))]
     pub fn number_of(&mut self, value: T) -> Result<u32, AllocError>
@@ -51,5 +58,15 @@ impl<T: Eq + Hash + Drop> Numbers<T> {
             return Err(AllocError);
         }
         Ok(number as u32)
+    }
+}
+
+/// A number that grows by another one. One past 2^64 counts as out of memory.
+pub fn grown(number: u64, more: usize) -> Result<u64, AllocError>
+    ensures { IfOk result (λ sum. sum ≡ number + more) }
+{
+    match number.checked_add(more as u64) {
+        Some(sum) => Ok(sum),
+        None => Err(AllocError),
     }
 }
