@@ -30,6 +30,15 @@ impl Precedence {
         }
     }
 
+    /// Another that is the same.
+    #[tactic(auto, using(crate::proofs::Equal::told_entries))]
+    pub fn copied(&self, alloc: Global) -> Result<Precedence, AllocError>
+        ensures { IfOk result (λ copy. ⟦<Precedence as PartialEq>⟧.eq copy self.now ≡ true) }
+    {
+        let entries = copies(alloc, &self.entries)?;
+        Ok(Precedence { entries })
+    }
+
     /// Whether no operation has begun.
     pub fn is_empty(&self) -> bool
         ensures { (events : List AnEvent) → AreOrdered events self.now → IsTrue result ↔ (begun events ≡ []) }
