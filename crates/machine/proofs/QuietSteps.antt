@@ -41,6 +41,7 @@ put_got (t ∷ harts) (suc h) s inside = put_got harts h s (omega arith)
 
 -- what makes no event leaves the copies
 copies_kept : (copies : List (List ℕ)) (h : ℕ) (request : Request) (text : List ℕ) → is_quiet request ≡ true → copies_after copies h request text ≡ copies
+unfolding is_quiet
 copies_kept copies h (Load address width) text quiet = refl
 copies_kept copies h (Store address width value) text quiet = refl
 copies_kept copies h (Lr address width) text quiet = absurd (cc)
@@ -57,6 +58,7 @@ not_true true h = cc
 not_true false h = refl
 
 no_event : (h : ℕ) (request : Request) (reply : Reply) → is_quiet request ≡ true → events_of h request reply ≡ []
+unfolding is_quiet
 no_event h (Load address width) reply quiet = refl
 no_event h (Store address width value) (Value v) quiet = refl
 no_event h (Store address width value) Done quiet = rw (not_true (nat_le PERSISTENT_BASE address) quiet) refl
@@ -119,6 +121,13 @@ module _ (m : MachineView) (h : ℕ) (s : HartState) (few : h < 8) (each : lengt
         let got = put_got m.harts h steps.0 inside in
         rw (same, ← after.2.harts, got) steps.3.running
   ]
+
+-- one more
+pub one_quiet_more : (text : Memory) (h n : ℕ) (s middle t : HartState) (old between new : SharedView) → AreQuietSteps text h n s middle old between
+    → IsQuietStep text h middle t between new → AreQuietSteps text h (n + 1) s t old new
+one_quiet_more text h n s middle t old between new steps step =
+    let count : n + 1 ≡ suc n = omega arith in
+    rw count (middle, between, steps, step)
 
 -- they make no event, and leave the number of lines
 step_keeps : (text : Memory) (h : ℕ) (s t : HartState) (old new : SharedView) → IsQuietStep text h s t old new

@@ -20,7 +20,7 @@ RunsBeforeEach machine h steps =
     (k : ℕ) (c d : Config) → k < steps → Represents machine c → RunsTo c (replicate k (Hart h)) d → IsRunning (slice_get d.harts h)
 
 -- a load, or a store below persistent memory: neither makes an event
-abbrev pub is_quiet : Request → Bool
+unfoldable pub is_quiet : Request → Bool
 is_quiet (Load address width) = true
 is_quiet (Store address width value) = not (nat_le PERSISTENT_BASE address)
 is_quiet request = false

@@ -69,6 +69,7 @@ fn go_quietly(
 
 /// Serves the request of an instruction and tells the hart the reply where it makes no event, as a load, and a store below persistent
 /// memory, and says whether it is such a one.
+#[tactic(auto, unfolding(crate::specs::QuietSteps::is_quiet))]
 #[inline(always)]
 fn answer_quietly(
     state: &mut HartState,

@@ -194,20 +194,16 @@ impl Shared {
         requires hart { hart < 8 }
         requires width { IsWidth width }
         requires below { address < PERSISTENT_BASE }
-        ensures serves { Serves self.old self.new hart (Request.Store address width value) result }
-        ensures limit { length self.new.trace ≤ 65536 }
+        ensures { Serves self.old self.new hart (Request.Store address width value) result }
     {
-        let reply = match self.place(address, width) {
+        match self.place(address, width) {
             Ok(Place::Ram(place)) => {
                 self.write_to_ram(hart, address, place, width, value);
                 Reply::Done
             }
             Ok(Place::Persistent(_)) => unreachable!(),
             Err(fault) => Reply::Fault(access_fault(fault)),
-        };
-        // a look at the trace, for its limit to be known
-        let _ = &self.trace;
-        reply
+        }
     }
 
     fn store(&mut self, hart: u32, address: u64, width: u32, value: u64) -> Result<Reply, StepFault>
