@@ -1,5 +1,6 @@
 -- The passes over the lines of a source, from one line to the next.
 use Rattle.std.proofs.Common.{◌≡◌, ◌∙◌, Bool, false, ℕ, zero, suc, ◌+◌, ◌<◌, ◌≤◌, List, [], ◌∷◌, ◌++◌, Option, ap, arith, append_assoc, append-nil, inl, inr, length, refl, subst, sym}
+use Rattle.std.proofs.lemmas.List.{length-append}
 use Rattle.std.specs.Prelude.{Some, None, nat_eq}
 use mathlib.Core.List.{reverse_aux}
 use Rattle.asm_lex.specs.Lines.{lines_of}
@@ -73,15 +74,22 @@ early_step source rest line after number p q old new found more code fits cut sh
           ∙ sym (behind_next (early_code (length source)) line before.earlier);
     }
 
-pub early_end : (source rest : List ℕ) (number most : ℕ) (p : Position) (labels : Labels) (found : List AsmFault) → rest ≡ []
+pub early_end : (source rest : List ℕ) (number most : ℕ) (p : Position) (labels : Labels) (found : List AsmFault) → length found ≤ most → rest ≡ []
     → FindingEarly source rest number p labels found → AreFirst most (early_faults source) found
-early_end source rest number most p labels found empty before =
+early_end source rest number most p labels found few empty before =
     let all : before.earlier ≡ lines_back source = next_end source rest number before.earlier empty before.next in
     record {
       rest = [];
       whole = ap (faults_behind (early_code (length source))) (sym all) ∙ sym before.found_are ∙ sym (append-nil found);
       as_many = inl refl;
+      few = few;
     }
+
+-- one code more is one fault more at most
+pub still_few : (found : List AsmFault) (number most : ℕ) (code : Option AsmCode) → length found ≤ most → ¬ (length found ≡ most)
+    → length (found ++ fault_at number code) ≤ most
+still_few found number most None few less = rw (append-nil found) few
+still_few found number most (Some code) few less = rw (length-append found (record { line = number; code = code } ∷ [])) (omega (arith, few, less))
 
 -- further lines have further faults
 pub record Grows (all found : List AsmFault) : Type 0 where
@@ -118,6 +126,7 @@ early_full source rest number most p labels found full before =
       whole = ap (faults_behind (early_code (length source))) (sym before.next.split) ∙ grows.whole
           ∙ ap (λ (faults : List AsmFault). faults ++ grows.rest) (sym before.found_are);
       as_many = inr full;
+      few = omega (arith, full);
     }
 
 -- the late pass
@@ -149,14 +158,15 @@ late_step source rest line after number p q found more code cut shorter has move
           ∙ sym (among_next (late_code (values_of source)) line before.earlier);
     }
 
-pub late_end : (source rest : List ℕ) (number most : ℕ) (p : Position) (found : List AsmFault) → rest ≡ []
+pub late_end : (source rest : List ℕ) (number most : ℕ) (p : Position) (found : List AsmFault) → length found ≤ most → rest ≡ []
     → FindingLate source rest number p found → AreFirst most (late_faults source) found
-late_end source rest number most p found empty before =
+late_end source rest number most p found few empty before =
     let all : before.earlier ≡ lines_back source = next_end source rest number before.earlier empty before.next in
     record {
       rest = [];
       whole = ap (faults_among (late_code (values_of source))) (sym all) ∙ sym before.found_are ∙ sym (append-nil found);
       as_many = inl refl;
+      few = few;
     }
 
 pub late_full : (source rest : List ℕ) (number most : ℕ) (p : Position) (found : List AsmFault) → length found ≡ most
@@ -168,6 +178,7 @@ late_full source rest number most p found full before =
       whole = ap (faults_among (late_code (values_of source))) (sym before.next.split) ∙ grows.whole
           ∙ ap (λ (faults : List AsmFault). faults ++ grows.rest) (sym before.found_are);
       as_many = inr full;
+      few = omega (arith, full);
     }
 
 -- where there are early faults they are all
@@ -178,6 +189,7 @@ early_are_all source most (fault ∷ faults) first some = record {
   rest = first.rest;
   whole = ap (λ (all : List AsmFault). or_else all (late_faults source)) first.whole;
   as_many = first.as_many;
+  few = first.few;
 }
 
 pub some_found : (n : ℕ) (b : Bool) (found : List AsmFault) → b ≡ nat_eq n 0 → b ≡ false → n ≡ length found → length found ≡ 0 → ⊥

@@ -1,5 +1,5 @@
 -- The lines of a source that are at fault, each with its lowest code. The lines before a line are listed with the last one first.
-use Rattle.std.specs.Prelude.{◌≡◌, ◌⊎◌, ℕ, ◌+◌, List, [], ◌∷◌, ◌++◌, length, Option, Some, None, ℤ}
+use Rattle.std.specs.Prelude.{◌≡◌, ◌⊎◌, ℕ, ◌+◌, ◌≤◌, List, [], ◌∷◌, ◌++◌, length, Option, Some, None, ℤ}
 use Rattle.std.specs.Result.{result_err}
 use Rattle.assemble.specs.AsmLineFaults.{◌>>=◌}
 use Rattle.assemble.specs.Assembly.{lines_back, values_of}
@@ -52,8 +52,9 @@ or_else (fault ∷ faults) others = fault ∷ faults
 abbrev pub faults_of : List ℕ → List AsmFault
 faults_of source = or_else (early_faults source) (late_faults source)
 
--- all of these, or so many from the first one on
+-- all of these where they are no more than so many, or so many from the first one on
 pub record AreFirst (most : ℕ) (all found : List AsmFault) : Type 0 where
   pub rest : List AsmFault
   pub whole : all ≡ found ++ rest
   pub as_many : (rest ≡ []) ⊎ (length found ≡ most)
+  pub few : length found ≤ most

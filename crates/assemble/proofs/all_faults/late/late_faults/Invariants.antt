@@ -1,4 +1,4 @@
-use Rattle.std.proofs.Common.{length}
+use Rattle.std.proofs.Common.{◌≤◌, length}
 use Rattle.assemble.specs.Passes.{FindingLate}
 use Rattle.assemble.specs.Positions.{IsWithin}
 use Rattle.assemble.proofs.all_faults.late.late_faults.Given as goal
@@ -7,6 +7,7 @@ abbrev pub invariant-loop-line : goal.invariant-loop-line
 invariant-loop-line l = record {
   passed : FindingLate l.source l.rest l.number l.position l.found.items;
   within : IsWithin l.position;
+  few : length l.found.items ≤ l.most;
 }
 
 abbrev pub decreases-loop-line : goal.decreases-loop-line
