@@ -22,6 +22,7 @@ pub mod Looking
 pub mod Marking
 pub mod Media
 pub mod Numbering
+pub mod Onward
 pub mod Persisting
 pub mod Putting
 pub mod Reaching
@@ -30,6 +31,7 @@ pub mod Same
 pub mod Seen
 pub mod Serving
 pub mod Showing
+pub mod Sizing
 pub mod Standing
 pub mod Starting
 pub mod Turning

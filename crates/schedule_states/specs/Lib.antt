@@ -16,10 +16,12 @@ pub mod Marks
 pub mod Media
 pub mod Memories
 pub mod Numbers
+pub mod Onward
 pub mod Persisting
 pub mod Reaching
 pub mod Requests
 pub mod Seen
+pub mod Sizes
 pub mod StartLines
 pub mod States
 pub mod Successors

@@ -1,21 +1,24 @@
 //! States that schedules lead to.
 
-ghost use Rattle.std.specs.Prelude.{◌≡◌, ◌≢◌, ◌⊎◌, ◌<◌, ◌≤◌, ℕ, [], false, true, length, slice_get, None, Some, IfNone, IfOk, IfSome};
+ghost use Rattle.std.specs.Prelude.{◌≡◌, ◌≢◌, ◌⊎◌, ◌++◌, ◌∷◌, ◌^◌, ◌<◌, ◌≤◌, ℕ, [], false, true, length, slice_get, slice_index_or, None, Some, IfNone, IfOk, IfSome};
 ghost use Rattle.hart.specs.declared.state.Status.TheVariants.{Running};
 ghost use Rattle.machine.specs.Run.{started};
 ghost use Rattle.schedule_states.specs.Covering.{CoversAt, IsClosedAt, IsMet, PartsEndWell};
 ghost use Rattle.schedule_states.specs.Numbers.{AreKept};
-ghost use Rattle.schedule_states.specs.Ending.{AreTurns, AreTurnsAt, HavePartsStopped, IsTurn};
-ghost use Rattle.schedule_states.specs.Happening.{AreLed, HasHappenedAt, IsLedAs};
+ghost use Rattle.schedule_states.specs.Ending.{AreTurnsAt, HavePartsStopped};
+ghost use Rattle.schedule_states.specs.Happening.{AreLed, HasHappenedAt};
 ghost use Rattle.schedule_states.specs.Judging.{IsGoodMoment, StaysGood};
 ghost use Rattle.schedule_states.specs.Leads.{AreOfHarts};
 ghost use Rattle.schedule_states.specs.Media.{AreOnMedium};
+ghost use Rattle.schedule_states.specs.Onward.{AreAllKnown, AreTurnsFrom, AreTurnsTo, HasParts, HasPlace, IsKnownTurn, IsPlaced, IsTurnOfParts, IsTurnTo, MayHaveOneMore, only};
 ghost use Rattle.schedule_states.specs.Reaching.{AreNumbered, AreNumbersBefore, AreNumbersOf, ArePartsOf, AreThere, HaveGrown, IsFirst, IsKeptOn, WereBefore};
+ghost use Rattle.schedule_states.specs.Sizes.{reached_bytes};
 ghost use Rattle.schedule_states.specs.States.{AreLists};
 ghost use Rattle.schedule_states.specs.Successors.{HasLists};
 ghost use Rattle.schedule_states.specs.Turns.{MayClaim, MayGo, MayNotGo};
 ghost use Rattle.schedule_states.specs.declared.program_state.HartPart.{HartPart as AHartPart};
 ghost use Rattle.schedule_states.specs.declared.program_state.ProgramState.{ProgramState as AProgramState};
+ghost use Rattle.schedule_states.specs.declared.program_state.StateNumbers.{StateNumbers as SomeNumbers};
 
 use crate::laws::{equal_numbers_are_same, equal_parts_are_same, equal_reserved_are_same};
 use crate::leads::{Lead, Leads};
@@ -36,10 +39,10 @@ use store_trace::Event;
 #[derive(Drop)]
 pub struct Reached<'a, J: StateJudge> {
     parts: Parts<'a>,
-    hart_parts: Numbers<HartPart>,
+    hart_parts: Numbers<'a, HartPart>,
     /// What is kept of the operations.
-    standings: Numbers<J::Standing>,
-    states: Numbers<StateNumbers>,
+    standings: Numbers<'a, J::Standing>,
+    states: Numbers<'a, StateNumbers>,
     leads: Leads,
 }
 
@@ -53,6 +56,20 @@ impl<'a, J: StateJudge> Model for Reached<'a, J> {
 
     ghost invariant = { λ r. AreNumbered (record { parts = r.parts; hart_parts = r.hart_parts; standings = r.standings; states = r.states; harts = r.leads }) };
 }
+
+/// To what the turn of a hart leads from a state.
+#[derive(Clone, Copy)]
+pub enum Turn {
+    /// The hart makes no request, or may make none.
+    Stays,
+    /// To a state that was reached, by its number.
+    Reached(u32),
+    /// To the state with parts of these numbers.
+    Parts(StateNumbers),
+}
+
+/// The turns of harts 0 to 7 from a state; None where one isn't known.
+pub type Turns = [Option<Turn>; 8];
 
 /// Why a search goes no further from a state.
 #[derive(Clone, Copy, Debug, PartialEq, Eq)]
@@ -106,7 +123,8 @@ impl<'a, J: StateJudge> Reached<'a, J> {
             numbers: &[0; 8],
             moved: 0,
         };
-        self.number_of(&start, standing, none)?;
+        let numbers = self.numbers_for(&start, standing, none)?;
+        self.number_of(numbers)?;
         Ok(None)
     }
 
@@ -117,8 +135,29 @@ impl<'a, J: StateJudge> Reached<'a, J> {
         self.states.as_slice().len()
     }
 
+    /// How many bytes the tables hold, but for what is kept of the operations.
+    pub fn bytes(&self) -> u128
+        ensures bytes { result ≡ reached_bytes self.now }
+        ensures few { result < 2 ^ 75 }
+    {
+        let states = 64 * self.count() as u128;
+        let harts = 312 * self.hart_parts.count() as u128;
+        states + harts + self.parts.bytes()
+    }
+
+    /// The numbers of the parts of a state, if it was reached.
+    pub fn find(&self, number: u32) -> Option<StateNumbers>
+        ensures found { IfSome result (λ numbers. (slice_get self.now.states number ≡ Some numbers) × AreThere self.now numbers) }
+        ensures none { IfNone result (length self.now.states ≤ number) }
+    {
+        if number as usize >= self.count() {
+            return None;
+        }
+        Some(self.numbers(number))
+    }
+
     /// The numbers of the parts of a state.
-    pub fn numbers(&self, number: u32) -> StateNumbers
+    fn numbers(&self, number: u32) -> StateNumbers
         requires { number < length self.now.states }
         ensures found { slice_get self.now.states number ≡ Some result }
         ensures there { AreThere self.now result }
@@ -209,16 +248,18 @@ impl<'a, J: StateJudge> Reached<'a, J> {
         self.leads.requests_to(alloc, number)
     }
 
-    /// Goes on from a state, whose harts run or have stopped as they may, by the next request of each hart that may go, up to one at which it
-    /// stops: the states to which those lead, or the state itself for a hart that makes none.
+    /// Goes on from a state, whose harts run or have stopped as they may, by the next request of each hart that may go: the states to which
+    /// those lead, or the state itself for a hart that makes none. Turns that are known aren't looked for.
     pub fn go_on_all(
         &mut self,
         alloc: Global,
         judge: &J,
         number: u32,
+        known: Option<&Turns>,
     ) -> Result<Result<[u32; 8], Stop>, AllocError>
         requires there { number < length self.old.states }
         requires claims { MayClaim (J.allows judge.now) self.old.parts.claims }
+        requires known { IfSome known (λ turns. AreTurnsFrom (J.stands judge.now) (J.allows judge.now) (J.ends judge.now) self.old number turns.now) }
         ensures closed { IfOk result (λ gone. IfOk gone (λ to. IsClosedAt (J.stands judge.now) (J.allows judge.now) (J.ends judge.now) self.new number)) }
         ensures turns { IfOk result (λ gone. IfOk gone (AreTurnsAt (J.stands judge.now) (J.allows judge.now) self.new number)) }
         ensures led { IfOk result (λ gone. IfOk gone (λ to. AreLed (J.stands judge.now) (J.allows judge.now) self.old →
@@ -230,12 +271,181 @@ impl<'a, J: StateJudge> Reached<'a, J> {
     {
         self.are_numbered();
         self.parts.lists_are_there();
+        match self.turns_from(alloc, judge, number, known)? {
+            Ok(turns) => Ok(Ok(self.take_all(judge, number, &turns)?)),
+            Err(stop) => Ok(Err(stop)),
+        }
+    }
+
+    /// To what the turns of the harts lead from a state: as far as it is known, and else by a look.
+    fn turns_from(
+        &mut self,
+        alloc: Global,
+        judge: &J,
+        number: u32,
+        known: Option<&Turns>,
+    ) -> Result<Result<Turns, Stop>, AllocError>
+        requires there { number < length self.old.states }
+        requires claims { MayClaim (J.allows judge.now) self.old.parts.claims }
+        requires known { IfSome known (λ turns. AreTurnsFrom (J.stands judge.now) (J.allows judge.now) (J.ends judge.now) self.old number turns.now) }
+        ensures turns { IfOk result (λ looked. IfOk looked (λ turns.
+            AreTurnsFrom (J.stands judge.now) (J.allows judge.now) (J.ends judge.now) self.new number turns × AreAllKnown self.new.harts turns)) }
+        ensures grown { HaveGrown self.old self.new }
+        ensures before { WereBefore self.old.parts self.new.parts }
+        ensures states { self.new.states ≡ self.old.states }
+    {
+        match known {
+            Some(turns) if are_all_known(turns, self.leads.harts()) => Ok(Ok(*turns)),
+            Some(turns) => self.look(alloc, judge, number, turns),
+            None => self.look(alloc, judge, number, &[None; 8]),
+        }
+    }
+
+    /// What is known of the turns of the harts at a state: of each that leads to a state of parts that have numbers already. None where a hart has
+    /// stopped as it may not, or memory is refused. Many may look at once.
+    pub fn known_turns(&self, alloc: Global, judge: &J, number: u32) -> Option<Turns>
+        requires there { number < length self.now.states }
+        requires claims { MayClaim (J.allows judge.now) self.now.parts.claims }
+        ensures { IfSome result (AreTurnsFrom (J.stands judge.now) (J.allows judge.now) (J.ends judge.now) self.now number) }
+    {
+        self.are_numbered();
+        let numbers = self.numbers(number);
+        let Ok(state) = self.state(alloc, &numbers) else {
+            return None;
+        };
+        if let Some(_hart) = ended_badly(judge, &state.harts) {
+            return None;
+        }
+        let mut turns = [None; 8];
+        let harts = self.leads.harts();
+        for hart in 0..harts {
+            turns[hart as usize] = self.known_turn(alloc, judge, &state, &numbers, hart);
+        }
+        Some(turns)
+    }
+
+    /// To what the turn of a hart leads from a state, whose parts have these numbers, where the parts of the next one have numbers, too.
+    fn known_turn(
+        &self,
+        alloc: Global,
+        judge: &J,
+        state: &ProgramState,
+        numbers: &StateNumbers,
+        hart: u32,
+    ) -> Option<Turn>
+        requires there { hart < self.now.harts }
+        requires parts { ArePartsOf self.now numbers.now self.now.harts state.now.harts.items }
+        requires lists { HasLists self.now.parts state.now }
+        requires standing { numbers.now.standing < length self.now.standings }
+        requires claims { MayClaim (J.allows judge.now) self.now.parts.claims }
+        ensures { IfSome result (λ turn. (t : J.Standing) → slice_get self.now.standings numbers.now.standing ≡ Some t →
+            IsKnownTurn (J.stands judge.now) (J.allows judge.now) self.now state.now t hart turn) }
+    {
+        self.are_numbered();
+        let mut lent = self.lent(alloc);
+        match lent.turn(alloc, judge, state, numbers, hart) {
+            Ok(Ok(next)) => self.placed(next),
+            _ => None,
+        }
+    }
+
+    /// The same states, lent for a look: what has no number there gets none, as if memory were refused for it.
+    fn lent(&self, alloc: Global) -> Reached<'_, J>
+        ensures { result ≡ self.now }
+    {
+        Reached {
+            parts: self.parts.lent(),
+            hart_parts: self.hart_parts.lent(),
+            standings: self.standings.lent(),
+            states: self.states.lent(),
+            leads: Leads::new(alloc, self.leads.harts()),
+        }
+    }
+
+    /// A turn that leads to the state with parts of these numbers, if it leads to one; None where they aren't those of parts that are there.
+    fn placed(&self, next: Option<StateNumbers>) -> Option<Turn>
+        ensures { IfSome result (IsPlaced self.now next) }
+    {
+        let Some(numbers) = next else {
+            return Some(Turn::Stays);
+        };
+        if let Some(number) = self.reached_by(&numbers) {
+            return Some(Turn::Reached(number));
+        }
+        if self.is_there(&numbers) {
+            Some(Turn::Parts(numbers))
+        } else {
+            None
+        }
+    }
+
+    /// The number of the state with parts of these numbers, if it was reached.
+    fn reached_by(&self, numbers: &StateNumbers) -> Option<u32>
+        ensures { IfSome result (λ number. slice_get self.now.states number ≡ Some numbers.now) }
+    {
+        equal_numbers_are_same();
+        self.states.known(numbers)
+    }
+
+    /// Whether the numbers are those of parts that are there.
+    fn is_there(&self, numbers: &StateNumbers) -> bool
+        ensures { result ≡ true → AreThere self.now numbers.now }
+    {
+        if !self.parts.has_list(numbers.memory)
+            || numbers.standing as usize >= self.standings.as_slice().len()
+        {
+            return false;
+        }
+        let count = self.leads.harts();
+        for hart in 0..count {
+            if !self.is_part_there(numbers.harts[hart as usize]) {
+                return false;
+            }
+        }
+        true
+    }
+
+    /// Whether this is the number of a hart's part that is there, with its text.
+    fn is_part_there(&self, number: u32) -> bool
+        ensures { result ≡ true → (part : AHartPart) × (slice_get self.now.hart_parts number ≡ Some part) × (part.text < length self.now.parts.lists) }
+    {
+        match self.hart_parts.as_slice().get(number as usize) {
+            Some(part) => self.parts.has_list(part.text),
+            None => false,
+        }
+    }
+
+    /// To what the turns of the harts lead from a state, whose harts run or have stopped as they may, up to one at which the search stops. Those
+    /// that are known aren't looked for.
+    fn look(
+        &mut self,
+        alloc: Global,
+        judge: &J,
+        number: u32,
+        known: &Turns,
+    ) -> Result<Result<Turns, Stop>, AllocError>
+        requires there { number < length self.old.states }
+        requires claims { MayClaim (J.allows judge.now) self.old.parts.claims }
+        requires known { (s : AProgramState) (t : J.Standing) → IsMet self.old number s t →
+            AreTurnsTo (J.stands judge.now) (J.allows judge.now) self.old s t self.old.harts known.now }
+        ensures turns { IfOk result (λ looked. IfOk looked (λ turns.
+            AreTurnsFrom (J.stands judge.now) (J.allows judge.now) (J.ends judge.now) self.new number turns × AreAllKnown self.new.harts turns)) }
+        ensures grown { HaveGrown self.old self.new }
+        ensures before { WereBefore self.old.parts self.new.parts }
+        ensures states { self.new.states ≡ self.old.states }
+    {
+        self.are_numbered();
+        self.parts.lists_are_there();
         let numbers = self.numbers(number);
         let state = self.state(alloc, &numbers)?;
         if let Some(hart) = ended_badly(judge, &state.harts) {
             return Ok(Err(Stop::Ended(hart)));
         }
-        self.turns(alloc, judge, number, &state, &numbers)
+        let from = From {
+            state: &state,
+            numbers: &numbers,
+        };
+        self.turns(alloc, judge, from, known)
     }
 
     /// Each state has the numbers of parts that are there.
@@ -246,39 +456,97 @@ impl<'a, J: StateJudge> Reached<'a, J> {
         let _ = &self.states;
     }
 
-    /// Goes on by the next request of each hart that may go from the state of a number, whose parts have these numbers, to these states.
+    /// To what the turns of the harts lead from a state, whose parts have these numbers.
     fn turns(
         &mut self,
         alloc: Global,
         judge: &J,
-        number: u32,
-        state: &ProgramState,
-        numbers: &StateNumbers,
-    ) -> Result<Result<[u32; 8], Stop>, AllocError>
-        requires parts { ArePartsOf self.old numbers.now self.old.harts state.now.harts.items }
-        requires lists { HasLists self.old.parts state.now }
-        requires standing { numbers.now.standing < length self.old.standings }
+        from: From<'_>,
+        known: &Turns,
+    ) -> Result<Result<Turns, Stop>, AllocError>
+        requires parts { ArePartsOf self.old from.numbers.now self.old.harts from.state.now.harts.items × HasLists self.old.parts from.state.now }
+        requires standing { from.numbers.now.standing < length self.old.standings }
         requires claims { MayClaim (J.allows judge.now) self.old.parts.claims }
-        requires met { (t : J.Standing) → slice_get self.old.standings numbers.now.standing ≡ Some t → IsMet self.old number state.now t }
-        ensures turns { IfOk result (λ gone. IfOk gone (λ to. (t : J.Standing) → slice_get self.old.standings numbers.now.standing ≡ Some t →
-            AreTurns (J.stands judge.now) (J.allows judge.now) self.new state.now t self.new.harts to)) }
-        ensures led { IfOk result (λ gone. IfOk gone (λ to. (t : J.Standing) → slice_get self.old.standings numbers.now.standing ≡ Some t →
-            IsLedAs (J.stands judge.now) (J.allows judge.now) self.old state.now t → AreLed (J.stands judge.now) (J.allows judge.now) self.old →
-            AreLed (J.stands judge.now) (J.allows judge.now) self.new)) }
-        ensures grown { HaveGrown self.old self.new }
-        ensures before { WereBefore self.old.parts self.new.parts }
+        requires known { (t : J.Standing) → slice_get self.old.standings from.numbers.now.standing ≡ Some t →
+            AreTurnsTo (J.stands judge.now) (J.allows judge.now) self.old from.state.now t self.old.harts known.now }
+        ensures turns { IfOk result (λ looked. IfOk looked (λ turns. AreAllKnown self.new.harts turns
+            × ((t : J.Standing) → slice_get self.old.standings from.entry.numbers.now.standing ≡ Some t →
+            AreTurnsTo (J.stands judge.now) (J.allows judge.now) self.new from.entry.state.now t self.new.harts turns))) }
+        ensures grown { HaveGrown self.old self.new × WereBefore self.old.parts self.new.parts × (self.new.states ≡ self.old.states) }
+    {
+        self.are_numbered();
+        let mut turns = [None; 8];
+        let harts = self.leads.harts();
+        for hart in 0..harts {
+            match self.turn_or(alloc, judge, from, known[hart as usize], hart)? {
+                Ok(turn) => turns[hart as usize] = Some(turn),
+                Err(stop) => return Ok(Err(stop)),
+            }
+        }
+        Ok(Ok(turns))
+    }
+
+    /// To what the turn of a hart leads from a state, if it isn't known.
+    fn turn_or(
+        &mut self,
+        alloc: Global,
+        judge: &J,
+        from: From<'_>,
+        known: Option<Turn>,
+        hart: u32,
+    ) -> Result<Result<Turn, Stop>, AllocError>
+        requires there { (hart < self.old.harts) × (from.numbers.now.standing < length self.old.standings) }
+        requires parts { ArePartsOf self.old from.numbers.now self.old.harts from.state.now.harts.items × HasLists self.old.parts from.state.now }
+        requires claims { MayClaim (J.allows judge.now) self.old.parts.claims }
+        requires known { IfSome known (λ turn. (t : J.Standing) → slice_get self.old.standings from.numbers.now.standing ≡ Some t →
+            IsKnownTurn (J.stands judge.now) (J.allows judge.now) self.old from.state.now t hart turn) }
+        ensures turn { IfOk result (λ looked. IfOk looked (λ turn. (t : J.Standing) → slice_get self.old.standings from.entry.numbers.now.standing ≡ Some t →
+            IsKnownTurn (J.stands judge.now) (J.allows judge.now) self.new from.entry.state.now t hart turn)) }
+        ensures grown { HaveGrown self.old self.new × WereBefore self.old.parts self.new.parts × (self.new.states ≡ self.old.states) }
+    {
+        if let Some(turn) = known {
+            return Ok(Ok(turn));
+        }
+        match self.turn(alloc, judge, from.state, from.numbers, hart)? {
+            Ok(next) => Ok(Ok(turn_to(next))),
+            Err(stop) => Ok(Err(stop)),
+        }
+    }
+
+    /// The states to which the turns of the harts lead from the state of a number: that state itself for a hart that makes no request.
+    fn take_all(&mut self, judge: &J, number: u32, turns: &Turns) -> Result<[u32; 8], AllocError>
+        requires turns { AreTurnsFrom (J.stands judge.now) (J.allows judge.now) (J.ends judge.now) self.old number turns.now }
+        requires all { AreAllKnown self.old.harts turns.now }
+        ensures closed { IfOk result (λ to. IsClosedAt (J.stands judge.now) (J.allows judge.now) (J.ends judge.now) self.new number) }
+        ensures turns { IfOk result (AreTurnsAt (J.stands judge.now) (J.allows judge.now) self.new number) }
+        ensures led { IfOk result (λ to. AreLed (J.stands judge.now) (J.allows judge.now) self.old → AreLed (J.stands judge.now) (J.allows judge.now) self.new) }
+        ensures grown { HaveGrown self.old self.new × (self.new.parts ≡ self.old.parts) }
     {
         self.are_numbered();
         let mut to = [number; 8];
         let harts = self.leads.harts();
         for hart in 0..harts {
-            match self.go_on(alloc, judge, state, numbers, hart)? {
-                Ok(next) => to[hart as usize] = next.unwrap_or(number),
-                Err(stop) => return Ok(Err(stop)),
-            }
+            let turn = turns[hart as usize].unwrap();
+            let next = self.take(turn)?;
+            to[hart as usize] = next.unwrap_or(number);
             self.note(Lead { from: number, hart })?;
         }
-        Ok(Ok(to))
+        Ok(to)
+    }
+
+    /// The number of the state to which a turn leads, if it leads to one. It is a new one where the state wasn't reached yet.
+    fn take(&mut self, turn: Turn) -> Result<Option<u32>, AllocError>
+        requires there { HasParts self.old turn }
+        ensures number { IfOk result (HasPlace self.new.states turn) }
+        ensures more { MayHaveOneMore self.old.states self.new.states turn }
+        ensures grown { HaveGrown self.old self.new }
+        ensures parts { self.new.parts ≡ self.old.parts }
+    {
+        match turn {
+            Turn::Stays => Ok(None),
+            Turn::Reached(number) => Ok(Some(number)),
+            Turn::Parts(numbers) => Ok(Some(self.number_of(numbers)?)),
+        }
     }
 
     /// Whether a hart may go, where what has this number is kept.
@@ -292,27 +560,25 @@ impl<'a, J: StateJudge> Reached<'a, J> {
         judge.may_go(&self.standings.as_slice()[standing as usize], hart)
     }
 
-    /// Goes on by the next request of a hart, if it may go, from a state, whose parts have these numbers: the state to which that leads.
-    fn go_on(
+    /// To what the next request of a hart leads, if it may go, from a state, whose parts have these numbers; None where it makes no request.
+    fn turn(
         &mut self,
         alloc: Global,
         judge: &J,
         state: &ProgramState,
         numbers: &StateNumbers,
         hart: u32,
-    ) -> Result<Result<Option<u32>, Stop>, AllocError>
+    ) -> Result<Result<Option<StateNumbers>, Stop>, AllocError>
         requires there { hart < self.old.harts }
         requires parts { ArePartsOf self.old numbers.now self.old.harts state.now.harts.items }
         requires lists { HasLists self.old.parts state.now }
         requires standing { numbers.now.standing < length self.old.standings }
         requires claims { MayClaim (J.allows judge.now) self.old.parts.claims }
-        ensures turn { IfOk result (λ gone. IfOk gone (λ next. (t : J.Standing) → slice_get self.old.standings numbers.now.standing ≡ Some t →
-            IsTurn (J.stands judge.now) (J.allows judge.now) self.new state.now t hart next)) }
-        ensures led { IfOk result (λ gone. IfOk gone (λ next. (t : J.Standing) → slice_get self.old.standings numbers.now.standing ≡ Some t →
-            IsLedAs (J.stands judge.now) (J.allows judge.now) self.old state.now t → AreLed (J.stands judge.now) (J.allows judge.now) self.old →
-            AreLed (J.stands judge.now) (J.allows judge.now) self.new)) }
+        ensures turn { IfOk result (λ looked. IfOk looked (λ next. (t : J.Standing) → slice_get self.old.standings numbers.now.standing ≡ Some t →
+            IsTurnTo (J.stands judge.now) (J.allows judge.now) self.new state.now t hart next)) }
         ensures grown { HaveGrown self.old self.new }
         ensures before { WereBefore self.old.parts self.new.parts }
+        ensures states { self.new.states ≡ self.old.states }
     {
         if !self.may_go(judge, numbers.standing, hart) {
             return Ok(Ok(None));
@@ -330,8 +596,8 @@ impl<'a, J: StateJudge> Reached<'a, J> {
                     numbers: &numbers.harts,
                     moved: hart,
                 };
-                let number = self.number_of(&next, standing, before)?;
-                Ok(Ok(Some(number)))
+                let to = self.numbers_for(&next, standing, before)?;
+                Ok(Ok(Some(to)))
             }
             Successor::Stopped => Ok(Ok(None)),
             Successor::TooLong => Ok(Err(Stop::TooLong(hart))),
@@ -347,35 +613,74 @@ impl<'a, J: StateJudge> Reached<'a, J> {
         self.leads.note(self.states.as_slice().len(), lead)
     }
 
-    /// The number of a state, which is a new one where it wasn't reached yet.
-    fn number_of(
+    /// The numbers of the parts of a state.
+    fn numbers_for(
         &mut self,
         state: &ProgramState,
         standing: u32,
         before: Before<'_>,
-    ) -> Result<u32, AllocError>
+    ) -> Result<StateNumbers, AllocError>
         requires count { length state.now.harts.items ≡ self.old.harts }
         requires lists { HasLists self.old.parts state.now }
         requires standing { standing < length self.old.standings }
         requires before { AreNumbersBefore self.old.hart_parts before.parts.now before.numbers.now before.moved state.now.harts.items }
-        ensures met { IfOk result (λ number. (t : J.Standing) → slice_get self.old.standings standing ≡ Some t → IsMet self.new number state.now t) }
-        ensures only { IfOk result (λ number. (t : J.Standing) → slice_get self.old.standings standing ≡ Some t → (n : ℕ) → n < length self.new.states →
-            (n < length self.old.states) ⊎ IsMet self.new n state.now t) }
+        ensures met { IfOk result (λ numbers. (t : J.Standing) → slice_get self.old.standings standing ≡ Some t → IsMet (only self.new numbers) 0 state.now t) }
+        ensures there { IfOk result (AreThere self.new) }
         ensures grown { HaveGrown self.old self.new }
-        ensures first { self.old.states ≡ [] → IfOk result (λ number. number ≡ 0) }
+        ensures states { self.new.states ≡ self.old.states }
         ensures parts { self.new.parts ≡ self.old.parts }
         ensures standings { self.new.standings ≡ self.old.standings }
     {
         let harts = numbers_of(&mut self.hart_parts, &state.harts, before)?;
-        let numbers = StateNumbers {
+        Ok(StateNumbers {
             harts,
             memory: state.memory,
             standing,
-        };
-        equal_numbers_are_same();
-        let number = self.states.number_of(numbers)?;
-        Ok(number)
+        })
     }
+
+    /// The number of the state with parts of these numbers, which is a new one where it wasn't reached yet.
+    fn number_of(&mut self, numbers: StateNumbers) -> Result<u32, AllocError>
+        requires there { AreThere self.old numbers }
+        ensures number { IfOk result (λ number. slice_get self.new.states number ≡ Some numbers) }
+        ensures more { (self.new.states ≡ self.old.states) ⊎ (self.new.states ≡ self.old.states ++ numbers ∷ []) }
+        ensures grown { HaveGrown self.old self.new }
+        ensures parts { self.new.parts ≡ self.old.parts }
+        ensures standings { self.new.standings ≡ self.old.standings }
+    {
+        equal_numbers_are_same();
+        self.states.number_of(numbers)
+    }
+}
+
+/// A state, and the numbers of its parts.
+#[derive(Clone, Copy)]
+struct From<'s> {
+    state: &'s ProgramState,
+    numbers: &'s StateNumbers,
+}
+
+/// A turn that leads to the state with parts of these numbers, if it leads to one.
+fn turn_to(next: Option<StateNumbers>) -> Turn
+    ensures { IsTurnOfParts next result }
+{
+    match next {
+        Some(numbers) => Turn::Parts(numbers),
+        None => Turn::Stays,
+    }
+}
+
+/// Whether the turns of the first harts are known.
+fn are_all_known(turns: &Turns, harts: u32) -> bool
+    requires { harts ≤ 8 }
+    ensures { result ≡ true → AreAllKnown harts turns.now }
+{
+    for hart in 0..harts {
+        if turns[hart as usize].is_none() {
+            return false;
+        }
+    }
+    true
 }
 
 /// Why the search goes no further from a state by what a judge says of it.
@@ -427,7 +732,7 @@ fn is_well<J: StateJudge>(judge: &J, status: Status) -> bool
 fn first_standing<J: StateJudge>(
     alloc: Global,
     judge: &J,
-    known: &mut Numbers<J::Standing>,
+    known: &mut Numbers<'_, J::Standing>,
 ) -> Result<u32, AllocError>
     ensures kept { AreKept known.old known.new }
     ensures first { IfOk result (IsFirst (J.stands judge.now) known.new) }
@@ -440,7 +745,7 @@ fn first_standing<J: StateJudge>(
 fn standing_after<J: StateJudge>(
     alloc: Global,
     judge: &J,
-    known: &mut Numbers<J::Standing>,
+    known: &mut Numbers<'_, J::Standing>,
     standing: u32,
     mark: Option<Event>,
 ) -> Result<Option<u32>, AllocError>
@@ -468,7 +773,7 @@ struct Before<'b> {
 
 /// The numbers of parts of harts, and zero behind them.
 fn numbers_of(
-    known: &mut Numbers<HartPart>,
+    known: &mut Numbers<'_, HartPart>,
     parts: &[HartPart],
     before: Before<'_>,
 ) -> Result<[u32; 8], AllocError>
@@ -486,7 +791,7 @@ fn numbers_of(
 
 /// The number of a hart's part, which is that of before where another hart has moved and this one has reserved the same line.
 fn number_at(
-    known: &mut Numbers<HartPart>,
+    known: &mut Numbers<'_, HartPart>,
     part: HartPart,
     before: Before<'_>,
     hart: usize,
