@@ -195,19 +195,19 @@ judge_of_file_shape = record (new_shape (codes "judge")) {
       ∷ flag_option (codes "json") ∷ flag_option (codes "progress") ∷ flag_option (codes "quiet") ∷ help_option ∷ [];
 }
 
--- `check-all PLAN PROGRAM [--medium FILE --harts N --states N --any-end --why --json --progress]`
+-- `check-all PLAN PROGRAM [--medium FILE --harts N --workers N --states N --any-end --why --json --progress]`
 unfoldable pub check_all_shape : Shape
 check_all_shape = record (new_shape (codes "check-all")) {
   rules = needed_word (codes "PLAN") ∷ needed_word (codes "PROGRAM") ∷ valued_option (codes "medium")
-      ∷ valued_option (codes "harts") ∷ valued_option (codes "states") ∷ flag_option (codes "any-end")
+      ∷ valued_option (codes "harts") ∷ valued_option (codes "workers") ∷ valued_option (codes "states") ∷ flag_option (codes "any-end")
       ∷ flag_option (codes "why") ∷ flag_option (codes "json") ∷ flag_option (codes "progress") ∷ help_option ∷ [];
 }
 
--- `judge-all PROGRAM RECOVERY [--medium FILE --harts N --steps N --states N --any-end --why --json --progress]`
+-- `judge-all PROGRAM RECOVERY [--medium FILE --harts N --steps N --workers N --states N --any-end --why --json --progress]`
 unfoldable pub judge_all_shape : Shape
 judge_all_shape = record (new_shape (codes "judge-all")) {
   rules = needed_word (codes "PROGRAM") ∷ needed_word (codes "RECOVERY") ∷ valued_option (codes "medium")
-      ∷ valued_option (codes "harts") ∷ valued_option (codes "steps") ∷ valued_option (codes "states")
+      ∷ valued_option (codes "harts") ∷ valued_option (codes "steps") ∷ valued_option (codes "workers") ∷ valued_option (codes "states")
       ∷ flag_option (codes "any-end") ∷ flag_option (codes "why") ∷ flag_option (codes "json") ∷ flag_option (codes "progress")
       ∷ help_option ∷ [];
 }

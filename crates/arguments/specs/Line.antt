@@ -221,11 +221,12 @@ pub record IsAsk (rows : List Row) (command : AskCommand) : Type 0 where
   pub why : command.why ≡ is_set (first_of (codes "why") rows)
   pub json : command.json ≡ is_set (first_of (codes "json") rows)
 
--- What `check-all` and `judge-all` have in common: this program, at most so many states, whether harts may stop in any way, whether a failure is
+-- What `check-all` and `judge-all` have in common: this program, by so many workers, at most so many states, whether harts may stop in any way, whether a failure is
 -- explained, as text or as JSON, and whether it is reported how far the search has come.
 pub record IsJudgedProgram (rows : List Row) (judged : JudgedProgram) : Type 0 where
   pub program : IsWord (codes "PROGRAM") rows judged.program
   pub machine : IsWholeMachine rows judged.machine
+  pub workers : IsWorkers rows judged.workers
   pub states : IsStates rows judged.states
   pub any_end : judged.any_end ≡ is_set (first_of (codes "any-end") rows)
   pub why : judged.why ≡ is_set (first_of (codes "why") rows)
@@ -370,6 +371,7 @@ pub record IsJudgedWithin (judged : JudgedRun) : Type 0 where
 -- the numbers of a program of which every schedule is judged are within their limits
 pub record IsProgramWithin (judged : JudgedProgram) : Type 0 where
   pub machine : IsMachineWithin judged.machine
+  pub workers : IsWithin 1 8 judged.workers
   pub states : IsWithin 1 4294967295 judged.states
 
 -- a command's numbers are within their limits

@@ -81,7 +81,7 @@ IsEvictions rows evictions = IsNumber 0 0 65536 (first_of (codes "evictions") ro
 abbrev pub IsHarts : List Row → ℕ → Type 0
 IsHarts rows harts = IsNumber 1 1 8 (first_of (codes "harts") rows) harts
 
--- the workers that judge a run: 1 where the line doesn't say
+-- the workers that judge a run or search: 1 where the line doesn't say
 abbrev pub IsWorkers : List Row → ℕ → Type 0
 IsWorkers rows workers = IsNumber 1 1 8 (first_of (codes "workers") rows) workers
 

@@ -40,9 +40,9 @@ pub enum Command {
     Judge(JudgeCommand),
     /// `judge --trace FILE --ask [--medium FILE --moments A-B --whole --why --json]`.
     Ask(AskCommand),
-    /// `check-all PLAN PROGRAM [--medium FILE --harts N --states N --any-end --why --json --progress]`.
+    /// `check-all PLAN PROGRAM [--medium FILE --harts N --workers N --states N --any-end --why --json --progress]`.
     CheckAll(CheckAllCommand),
-    /// `judge-all PROGRAM RECOVERY [--medium FILE --harts N --steps N --states N --any-end --why --json --progress]`.
+    /// `judge-all PROGRAM RECOVERY [--medium FILE --harts N --steps N --workers N --states N --any-end --why --json --progress]`.
     JudgeAll(JudgeAllCommand),
     /// `answer RECOVERY [--medium FILE --steps N]`.
     Answer(AnswerCommand),
@@ -311,6 +311,8 @@ pub struct JudgedProgram {
     pub program: String,
     /// The machine, whose capacity is None.
     pub machine: MachineOptions,
+    /// The number of workers that search, from 1 to 8; 1 where the line doesn't say.
+    pub workers: u32,
     /// The most states that are met, from 1 to 4,294,967,295; 1,000,000 where the line doesn't say.
     pub states: u32,
     /// Whether harts may stop in any way: trap, or exit with another code than 0.

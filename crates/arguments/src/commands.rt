@@ -80,7 +80,7 @@ const EVICTIONS: NumberOption = NumberOption {
     high: 65_536,
 };
 
-/// The workers of `check` and `judge`.
+/// The workers of `check`, `judge`, `check-all` and `judge-all`.
 const WORKERS: NumberOption = NumberOption {
     name: "workers",
     default: 1,
@@ -178,6 +178,7 @@ fn judged_program(alloc: Global, found: &ArgMatches<'_>) -> Result<JudgedProgram
         why: flag(found, "why"),
         json: flag(found, "json"),
         progress: flag(found, "progress"),
+        workers: number(alloc, found, &WORKERS)?,
         states: number(alloc, found, &STATES)?,
         machine: whole_machine(alloc, found)?,
         program: word(alloc, found, "PROGRAM")?,

@@ -251,6 +251,12 @@ const WORKERS: Argument = Argument::Valued {
     about: "The number of workers that judge the run, from 1 to 8 [default: 1]",
 };
 
+const SEARCHERS: Argument = Argument::Valued {
+    name: "workers",
+    value: "N",
+    about: "The number of workers that search, from 1 to 8: the answer doesn't depend on it [default: 1]",
+};
+
 const MOMENTS: Argument = Argument::Valued {
     name: "moments",
     value: "A-B",
@@ -607,7 +613,7 @@ static JUDGING_PROGRAMS: [Subcommand; 3] = [
         group: Group::Judge,
         about: "Judge every crash image of every schedule of a program by a plan of operations",
         arguments: &[
-            PLAN, PROGRAM, MEDIUM, HARTS, STATES, ANY_END, WHY, JSON, PROGRESS,
+            PLAN, PROGRAM, MEDIUM, HARTS, SEARCHERS, STATES, ANY_END, WHY, JSON, PROGRESS,
         ],
         ending: ending!("check-all append.plan append.s --medium append.medium --why"),
     },
@@ -621,6 +627,7 @@ static JUDGING_PROGRAMS: [Subcommand; 3] = [
             MEDIUM,
             HARTS,
             RECOVERY_STEPS,
+            SEARCHERS,
             STATES,
             ANY_END,
             WHY,

@@ -104,6 +104,7 @@ fn told_search<T: Threads + Sync + Clock, E: Write>(
     let limits = Limits {
         states: judged.states,
         any_end: judged.any_end,
+        workers: judged.workers,
     };
     Ok(check_all(rt, alloc, plan, setup, limits, reporter)?)
 }

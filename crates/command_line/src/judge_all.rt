@@ -113,6 +113,7 @@ fn told_search<T: Threads + Sync + Clock, E: Write>(
     let limits = Limits {
         states: judged.states,
         any_end: judged.any_end,
+        workers: judged.workers,
     };
     Ok(judge_all(rt, alloc, recovery, setup, limits, reporter)?)
 }

@@ -25,6 +25,8 @@ pub struct Limits {
     pub states: u32,
     /// Whether harts may stop in any way, or never: trap, exit with another code than 0, wait or go round for ever.
     pub any_end: bool,
+    /// How many threads look at states at once, from one on. Nothing that is found depends on them.
+    pub workers: u32,
 }
 
 /// Judges by a plan every schedule of a program on one to eight harts: of any length, with evictions anywhere, over a cache of any size.
@@ -91,6 +93,7 @@ fn explore_all<T: Threads + Sync, W: Watcher>(
         medium: &setup.medium,
         harts: setup.harts,
         most: limits.states,
+        workers: limits.workers,
     };
     let mut workspace = judge.workspace(alloc, setup.medium.lines())?;
     explore(rt, alloc, &judge, start, &mut workspace, watcher)

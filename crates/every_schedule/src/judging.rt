@@ -57,6 +57,7 @@ pub fn judge_all<T: Threads + Sync, W: Watcher>(
             let left = Limits {
                 states: states_left(limits.states, states),
                 any_end: limits.any_end,
+                workers: limits.workers,
             };
             let judge = RoutineRun {
                 recovery,
@@ -148,6 +149,7 @@ fn search<T: Threads + Sync, W: Watcher>(
         medium: &setup.medium,
         harts: setup.harts,
         most: limits.states,
+        workers: limits.workers,
     };
     let mut notes = atomic.workspace(alloc, setup.medium.lines())?;
     let explored = explore(rt, alloc, &atomic, start, &mut notes, watcher)?;

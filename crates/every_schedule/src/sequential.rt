@@ -62,6 +62,7 @@ pub fn sequential_runs<T: Threads + Sync>(
         medium: &setup.medium,
         harts: setup.harts,
         most,
+        workers: 1,
     };
     let mut notes = judge.workspace(alloc, setup.medium.lines())?;
     let explored = explore(rt, alloc, &judge, start, &mut notes, &mut Unwatched)?;

@@ -22,6 +22,7 @@ pub mod Looking
 pub mod Marking
 pub mod Media
 pub mod Numbering
+pub mod Onward
 pub mod Persisting
 pub mod Putting
 pub mod Reaching

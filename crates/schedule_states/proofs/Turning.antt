@@ -19,7 +19,7 @@ use Rattle.schedule_states.specs.Successors.{HasLists}
 use Rattle.schedule_states.specs.Ways.{AreInside}
 use Rattle.schedule_states.specs.declared.program_state.ProgramState.{ProgramState}
 
-way_kept : {T : Type 0} (stands : T → List Event → Type 0) (old new : ReachedView T) (s : ProgramState) (t : T) (n : ℕ) → HasLists old.parts s → HaveGrown old new →
+pub way_kept : {T : Type 0} (stands : T → List Event → Type 0) (old new : ReachedView T) (s : ProgramState) (t : T) (n : ℕ) → HasLists old.parts s → HaveGrown old new →
     WereBefore old.parts new.parts → IsWayTo stands old s t n → IsWayTo stands new s t n
 way_kept stands old new s t n lists grown before way = record {
   there = within_kept old.states new.states n grown.states way.there;

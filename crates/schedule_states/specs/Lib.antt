@@ -16,6 +16,7 @@ pub mod Marks
 pub mod Media
 pub mod Memories
 pub mod Numbers
+pub mod Onward
 pub mod Persisting
 pub mod Reaching
 pub mod Requests

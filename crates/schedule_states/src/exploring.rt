@@ -12,7 +12,9 @@ ghost use Rattle.schedule_states.specs.Watching.{HasHeard};
 
 use crate::claims::ClaimedLine;
 use crate::guessing::guess;
-use crate::moments::{Judged, judge_state};
+use crate::known_turns::KnownTurns;
+use crate::moments::{Judged, Limits, judge_state};
+use crate::origin::Origin;
 use crate::parts::Parts;
 use crate::reached::{Reached, Stop};
 use crate::state_judge::StateJudge;
@@ -56,6 +58,8 @@ pub struct Start<'a> {
     pub harts: u32,
     /// A search ends where there are more states.
     pub most: u32,
+    /// How many threads look at states at once, from one on.
+    pub workers: u32,
     ghost few: { harts ≤ 8 },
 }
 
@@ -65,7 +69,7 @@ const MOST_GUESSES: u32 = 64;
 /// Judges all states to which schedules that keep to the judge's rule of turns lead, if they aren't more than so many, those first that fewer
 /// requests lead to, if need be by further threads. Where the judge asks for that, each state must lead on to an end, where all harts have
 /// stopped. The watcher hears of each state before it is judged. What the judge notes of the states stands in the workspace.
-pub fn explore<T: Threads + Sync, J: StateJudge, W: Watcher>(
+pub fn explore<T: Threads + Sync, J: StateJudge + Sync, W: Watcher>(
     rt: &T,
     alloc: Global,
     judge: &J,
@@ -92,7 +96,7 @@ pub fn explore<T: Threads + Sync, J: StateJudge, W: Watcher>(
 
 /// The same by claims of lines, which are guessed, and checked. The search begins anew without a claim that is broken. None where the judge
 /// lets no line be claimed, and where a search ends otherwise than by a pass or for too many states: what it finds is to be found without claims.
-fn explore_claiming<T: Threads + Sync, J: StateJudge, W: Watcher>(
+fn explore_claiming<T: Threads + Sync, J: StateJudge + Sync, W: Watcher>(
     rt: &T,
     alloc: Global,
     judge: &J,
@@ -172,7 +176,7 @@ struct Claimed<'a> {
 }
 
 /// Judges all states, where this is claimed of lines. That a state has no way out is said where nothing is.
-fn explore_by<T: Threads + Sync, J: StateJudge, W: Watcher>(
+fn explore_by<T: Threads + Sync, J: StateJudge + Sync, W: Watcher>(
     rt: &T,
     alloc: Global,
     judge: &J,
@@ -193,14 +197,19 @@ fn explore_by<T: Threads + Sync, J: StateJudge, W: Watcher>(
     ensures told { HasHeard W.hears watcher.old watcher.new }
 {
     let start = claimed.start;
-    let parts = Parts::new(alloc, start.program, start.medium, claimed.claims)?;
+    let origin = Origin::new(alloc, start.program, start.medium)?;
+    let parts = Parts::new(alloc, &origin, claimed.claims)?;
     let mut reached = Reached::with_none(alloc, parts, start.harts);
-    let mut judged = Judged::new(alloc, start.most, judge.must_end());
+    let limits = Limits {
+        most: start.most,
+        workers: start.workers,
+    };
+    let mut judged = Judged::new(alloc, limits, judge.must_end());
     explore_from(rt, judge, &mut reached, &mut judged, workspace, watcher)
 }
 
 /// Judges all states, of which none is reached yet.
-fn explore_from<T: Threads + Sync, J: StateJudge, W: Watcher>(
+fn explore_from<T: Threads + Sync, J: StateJudge + Sync, W: Watcher>(
     rt: &T,
     judge: &J,
     reached: &mut Reached<'_, J>,
@@ -235,7 +244,7 @@ fn explore_from<T: Threads + Sync, J: StateJudge, W: Watcher>(
 }
 
 /// Judges the states that are reached, and goes on from them.
-fn search<T: Threads + Sync, J: StateJudge, W: Watcher>(
+fn search<T: Threads + Sync, J: StateJudge + Sync, W: Watcher>(
     rt: &T,
     judge: &J,
     reached: &mut Reached<'_, J>,
@@ -261,7 +270,8 @@ fn search<T: Threads + Sync, J: StateJudge, W: Watcher>(
     ensures told { HasHeard W.hears watcher.old watcher.new }
 {
     let alloc = judged.alloc;
-    let most = judged.most;
+    let most = judged.limits.most;
+    let mut known = KnownTurns::none(alloc, judged.limits.workers);
     for number in 0..most {
         let met = reached.count();
         if met > most as usize {
@@ -274,7 +284,8 @@ fn search<T: Threads + Sync, J: StateJudge, W: Watcher>(
         if let Some(stop) = judge_state(rt, judge, reached, judged, workspace, number)? {
             return found(alloc, reached, number, stop);
         }
-        match reached.go_on_all(alloc, judge, number)? {
+        known.look_ahead(rt, judge, reached, number)?;
+        match reached.go_on_all(alloc, judge, number, known.of(number))? {
             Ok(to) => judged.ways.note(to)?,
             Err(stop) => return found(alloc, reached, number, stop),
         }

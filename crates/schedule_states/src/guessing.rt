@@ -5,6 +5,7 @@ ghost use Rattle.schedule_states.specs.Successors.{HasLists};
 
 use crate::claims::{Claim, ClaimedLine, line_of};
 use crate::exploring::Start;
+use crate::origin::Origin;
 use crate::parts::Parts;
 use crate::program_state::ProgramState;
 use crate::successor::Successor;
@@ -36,7 +37,8 @@ fn touch_in_turn(
     start: Start<'_>,
     touched: &mut Vec<TouchedLine>,
 ) -> Result<(), AllocError> {
-    let mut parts = Parts::new(alloc, start.program, start.medium, &[])?;
+    let origin = Origin::new(alloc, start.program, start.medium)?;
+    let mut parts = Parts::new(alloc, &origin, &[])?;
     let Ok(mut state) = parts.start(alloc, start.harts)? else {
         return Ok(());
     };

@@ -31,8 +31,8 @@ use std::marker::Model;
 /// What a run starts from, and the states that lines have come to have, each by its number.
 #[derive(Drop)]
 pub struct LineTable<'a> {
-    start: StartLines<'a>,
-    states: Numbers<LineState>,
+    start: &'a StartLines<'a>,
+    states: Numbers<'a, LineState>,
 }
 
 impl<'a> Model for LineTable<'a> {
@@ -40,17 +40,27 @@ impl<'a> Model for LineTable<'a> {
 
     ghost Value = { TableView };
 
-    ghost view = { λ t. record { start = t.start; states = t.states } };
+    ghost view = { λ t. record { start = t.start.now; states = t.states } };
 }
 
 impl<'a> LineTable<'a> {
     /// No line has come to have another state than at the start.
-    pub fn new(alloc: Global, start: StartLines<'a>) -> LineTable<'a>
-        ensures { result ≡ record { start = start.entry; states = [] } }
+    pub fn new(alloc: Global, start: &'a StartLines<'a>) -> LineTable<'a>
+        ensures { result ≡ record { start = start.now; states = [] } }
     {
         LineTable {
             start,
             states: Numbers::new(alloc),
+        }
+    }
+
+    /// The same lines, lent for a look.
+    pub fn lent(&self) -> LineTable<'_>
+        ensures { result ≡ self.now }
+    {
+        LineTable {
+            start: self.start,
+            states: self.states.lent(),
         }
     }
 
@@ -59,7 +69,7 @@ impl<'a> LineTable<'a> {
         requires { AreBelow (length self.now.states) held.now }
         ensures { result ≡ record { start = self.now.start; states = self.now.states; held = held.now } }
     {
-        StateMemory::new(&self.start, self.states.as_slice(), held)
+        StateMemory::new(self.start, self.states.as_slice(), held)
     }
 
     /// The lines that are held after a request of a hart with the reply to it.

@@ -13,7 +13,7 @@ use std::marker::Model;
 /// What lists of a search hold of the medium: each such list once, by its number.
 #[derive(Drop)]
 pub struct MediumLists {
-    lists: MemoryLists,
+    lists: MemoryLists<'static>,
     /// For each of the first lists of the search, the number of what it holds of the medium.
     numbers: Vec<u32>,
 }

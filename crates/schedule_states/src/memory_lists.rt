@@ -11,11 +11,11 @@ use std::marker::Model;
 
 /// Lists of held lines, each once, by its number. A number stays that of its list.
 #[derive(Drop)]
-pub struct MemoryLists {
-    lists: Numbers<Vec<HeldLine>>,
+pub struct MemoryLists<'a> {
+    lists: Numbers<'a, Vec<HeldLine>>,
 }
 
-impl Model for MemoryLists {
+impl<'a> Model for MemoryLists<'a> {
     ghost use Rattle.std.specs.Prelude.{List, map};
     ghost use Rattle.schedule_states.specs.declared.held_lines.HeldLine.{HeldLine as AHeldLine};
 
@@ -24,14 +24,30 @@ impl Model for MemoryLists {
     ghost view = { λ m. map (λ list. list.items) m.lists };
 }
 
-impl MemoryLists {
+impl<'a> MemoryLists<'a> {
     /// None.
-    pub fn new(alloc: Global) -> MemoryLists
+    pub fn new(alloc: Global) -> MemoryLists<'a>
         ensures { result ≡ [] }
     {
         MemoryLists {
             lists: Numbers::new(alloc),
         }
+    }
+
+    /// The same lists, lent for a look.
+    pub fn lent(&self) -> MemoryLists<'_>
+        ensures { result ≡ self.now }
+    {
+        MemoryLists {
+            lists: self.lists.lent(),
+        }
+    }
+
+    /// How many there are.
+    pub fn count(&self) -> usize
+        ensures { result ≡ length self.now }
+    {
+        self.lists.as_slice().len()
     }
 
     /// The list of a number.

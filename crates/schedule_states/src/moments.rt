@@ -20,29 +20,36 @@ pub struct Moment {
     pub standing: u32,
 }
 
+/// How far a search goes, and by how many threads.
+#[derive(Clone, Copy, Debug, PartialEq, Eq)]
+pub struct Limits {
+    /// It ends where there are more states.
+    pub most: u32,
+    pub workers: u32,
+}
+
 /// The moments that a search has judged, each by its number, how far it goes, and where requests lead from the states that it has judged.
 #[derive(Drop)]
 pub struct Judged {
     pub alloc: Global,
-    /// A search ends where there are more states.
-    pub most: u32,
+    pub limits: Limits,
     /// What states hold of the medium.
     pub media: MediumLists,
-    pub moments: Numbers<Moment>,
+    pub moments: Numbers<'static, Moment>,
     pub ways: Ways,
 }
 
 impl Judged {
-    /// None yet, of a search that ends where there are more states than so many. It says whether a state has no way out where that is asked.
-    pub fn new(alloc: Global, most: u32, asked: bool) -> Judged
-        ensures most { result.most ≡ most }
+    /// None yet, of a search that goes so far. It says whether a state has no way out where that is asked.
+    pub fn new(alloc: Global, limits: Limits, asked: bool) -> Judged
+        ensures limits { result.limits ≡ limits }
         ensures media { result.media ≡ record { lists = []; numbers = [] } }
         ensures moments { result.moments ≡ [] }
         ensures ways { (result.ways.asked ≡ asked) × (result.ways.next.items ≡ []) }
     {
         Judged {
             alloc,
-            most,
+            limits,
             media: MediumLists::new(alloc),
             moments: Numbers::new(alloc),
             ways: Ways::new(alloc, asked),
@@ -69,7 +76,7 @@ pub fn judge_state<T: Threads + Sync, J: StateJudge>(
         × IsGoodState (J.stands judge.now) (J.good judge.now workspace.new) reached.now number) }
     ensures kept { StaysGood (J.good judge.now workspace.old) (J.good judge.now workspace.new) }
     ensures ways { judged.new.ways ≡ judged.old.ways }
-    ensures most { judged.new.most ≡ judged.old.most }
+    ensures limits { judged.new.limits ≡ judged.old.limits }
 {
     let numbers = reached.numbers(number);
     let alloc = judged.alloc;

@@ -1,7 +1,7 @@
 //! Values, each once, by its number.
 
-ghost use Rattle.std.specs.Prelude.{◌≡◌, ◌⊎◌, ◌++◌, ◌∷◌, [], IfOk};
-ghost use Rattle.schedule_states.specs.Numbers.{AreKept, HasNumber};
+ghost use Rattle.std.specs.Prelude.{◌≡◌, ◌⊎◌, ◌++◌, ◌∷◌, [], IfOk, IfSome};
+ghost use Rattle.schedule_states.specs.Numbers.{AreKept, HasNumber, values_in};
 
 use indexmap::IndexSet;
 use std::alloc::{AllocError, Global};
@@ -10,25 +10,43 @@ use std::marker::Model;
 
 /// Values, each once, by its number. A number stays that of its value.
 #[derive(Drop)]
-pub struct Numbers<T: Eq + Hash> {
-    values: IndexSet<T>,
+pub struct Numbers<'a, T: Eq + Hash> {
+    values: Table<'a, T>,
 }
 
-impl<T: Eq + Hash> Model for Numbers<T> {
+/// Where the values stand.
+#[derive(Drop)]
+enum Table<'a, T: Eq + Hash> {
+    Own(IndexSet<T>),
+    /// Lent for a look: to these no value is added.
+    Lent(&'a IndexSet<T>),
+}
+
+impl<'a, T: Eq + Hash> Model for Numbers<'a, T> {
+    ghost use Rattle.schedule_states.specs.Numbers.{values_in};
     ghost use Rattle.std.specs.Prelude.{List};
 
     ghost Value = { List T };
 
-    ghost view = { λ n. n.values.keys };
+    ghost view = { λ n. values_in n.values };
 }
 
-impl<T: Eq + Hash + Drop> Numbers<T> {
+impl<'a, T: Eq + Hash + Drop> Numbers<'a, T> {
     /// None.
-    pub fn new(alloc: Global) -> Numbers<T>
+    pub fn new(alloc: Global) -> Numbers<'a, T>
         ensures { result ≡ [] }
     {
         Numbers {
-            values: IndexSet::new(alloc),
+            values: Table::Own(IndexSet::new(alloc)),
+        }
+    }
+
+    /// The same values, lent for a look: one that has no number there gets none, as if memory were refused for it.
+    pub fn lent(&self) -> Numbers<'_, T>
+        ensures { result ≡ self.now }
+    {
+        Numbers {
+            values: Table::Lent(self.values.set()),
         }
     }
 
@@ -36,20 +54,50 @@ impl<T: Eq + Hash + Drop> Numbers<T> {
     pub fn as_slice(&self) -> &[T]
         ensures { result.now ≡ self.now }
     {
-        self.values.as_slice()
+        self.values.set().as_slice()
     }
 
     /// The number of a value, which is a new one where it has none yet. Over 2^32 values count as out of memory.
-    #[tactic(auto, using(crate::proofs::Looking::inserted, crate::proofs::Looking::kept_inserted))]
     pub fn number_of(&mut self, value: T) -> Result<u32, AllocError>
         ensures kept { AreKept self.old self.new }
         ensures appended { (self.new ≡ self.old) ⊎ (self.new ≡ self.old ++ value ∷ []) }
         ensures number { IfOk result (λ number. HasNumber T.eq self.new number value) }
     {
-        let (number, _) = self.values.insert_full(value)?;
+        let number = self.values.number_of(value)?;
         if number > u32::MAX as usize {
             return Err(AllocError);
         }
         Ok(number as u32)
     }
+}
+
+impl<'a, T: Eq + Hash + Drop> Table<'a, T> {
+    fn set(&self) -> &IndexSet<T>
+        ensures { result.now.keys ≡ values_in self.now }
+    {
+        match self {
+            Table::Own(values) => values,
+            Table::Lent(values) => values,
+        }
+    }
+
+    #[tactic(auto, using(crate::proofs::Looking::inserted, crate::proofs::Looking::kept_inserted))]
+    fn number_of(&mut self, value: T) -> Result<usize, AllocError>
+        ensures kept { AreKept (values_in self.old) (values_in self.new) }
+        ensures appended { (values_in self.new ≡ values_in self.old) ⊎ (values_in self.new ≡ values_in self.old ++ value ∷ []) }
+        ensures number { IfOk result (λ number. HasNumber T.eq (values_in self.new) number value) }
+    {
+        match self {
+            Table::Own(values) => Ok(values.insert_full(value)?.0),
+            Table::Lent(values) => number_in(values, &value).ok_or(AllocError),
+        }
+    }
+}
+
+/// The number that a value has among those of a set.
+fn number_in<T: Eq + Hash>(values: &IndexSet<T>, value: &T) -> Option<usize>
+    ensures { IfSome result (λ number. HasNumber T.eq values.now.keys number value.now) }
+{
+    let (number, found) = values.get_full(value)?;
+    if *value == *found { Some(number) } else { None }
 }

@@ -1,6 +1,6 @@
 //! What the states of a program have in common.
 
-ghost use Rattle.std.specs.Prelude.{◌≡◌, ◌≤◌, ◌<◌, ◌+◌, ◌*◌, Some, [], length, slice_get, slice_index_or, IfOk, IfSome};
+ghost use Rattle.std.specs.Prelude.{◌≡◌, ◌≤◌, ◌<◌, ◌+◌, ◌*◌, true, Some, [], length, slice_get, slice_index_or, IfOk, IfSome};
 ghost use Rattle.line_memory.specs.declared.TheConstants.{TEXT_BASE, TEXT_SIZE};
 ghost use Rattle.hart.specs.Needs.{IsInstruction};
 ghost use Rattle.hart.specs.Requests.{IsRequest};
@@ -21,17 +21,16 @@ use crate::claims::{ClaimedLine, is_local, keeps, line_of};
 use crate::held_lines::HeldLine;
 use crate::line_table::LineTable;
 use crate::memory_lists::MemoryLists;
+use crate::origin::Origin;
 use crate::program_state::{HartPart, ProgramState};
 use crate::request::{mark_of, reply_to};
 use crate::reserving::reserved_after;
-use crate::start_lines::StartLines;
 use crate::state_memory::StateMemory;
 use crate::successor::{Successor, harts_after, text_lines};
 use hart::{HartState, Reply, Request, Trap, instruction, resume};
 use isa_table::Instr;
-use line_memory::{Medium, TEXT_BASE, TEXT_SIZE};
+use line_memory::{TEXT_BASE, TEXT_SIZE};
 use machine::TextCopy;
-use program::Program;
 use std::alloc::{AllocError, Global};
 use std::marker::Model;
 
@@ -40,9 +39,9 @@ use std::marker::Model;
 #[derive(Drop)]
 pub struct Parts<'a> {
     lines: LineTable<'a>,
-    lists: MemoryLists,
+    lists: MemoryLists<'a>,
     /// The text at the start, decoded.
-    text: TextCopy,
+    text: &'a TextCopy,
     /// What is claimed of lines.
     claims: &'a [ClaimedLine],
 }
@@ -58,36 +57,40 @@ impl<'a> Model for Parts<'a> {
 
     ghost view = { λ p. record { table = p.lines; lists = p.lists; claims = p.claims.now } };
 
-    ghost invariant = { λ p. AreLists p.lines.states p.lists × (text_bytes p.text ≡ text_of (memory_at p.lines.start)) };
+    ghost invariant = { λ p. AreLists p.lines.states p.lists × (text_bytes p.text.now ≡ text_of (memory_at p.lines.start)) };
 }
 
 impl<'a> Parts<'a> {
     /// Of no state yet, where this is claimed of lines.
     pub fn new(
         alloc: Global,
-        program: &'a Program,
-        medium: &'a Medium,
+        origin: &'a Origin<'a>,
         claims: &'a [ClaimedLine],
     ) -> Result<Parts<'a>, AllocError>
-        ensures program { IfOk result (λ parts. parts.table.start.program ≡ program.now) }
-        ensures medium { IfOk result (λ parts. parts.table.start.medium ≡ medium.now) }
+        ensures start { IfOk result (λ parts. parts.table.start ≡ origin.now) }
         ensures empty { IfOk result (λ parts. slice_get parts.lists 0 ≡ Some []) }
         ensures claims { IfOk result (λ parts. parts.claims ≡ claims.now) }
     {
-        let Ok(start) = StartLines::new(alloc, program, medium) else {
-            return Err(AllocError);
-        };
-        let Ok(text) = TextCopy::new(alloc, program.text_bytes()) else {
-            return Err(AllocError);
-        };
         let mut lists = MemoryLists::new(alloc);
         lists.number_of(Vec::new(alloc))?;
         Ok(Parts {
-            lines: LineTable::new(alloc, start),
+            lines: LineTable::new(alloc, origin.lines()),
             lists,
-            text,
+            text: origin.text(),
             claims,
         })
+    }
+
+    /// The same parts, lent for a look.
+    pub fn lent(&self) -> Parts<'_>
+        ensures { result ≡ self.now }
+    {
+        Parts {
+            lines: self.lines.lent(),
+            lists: self.lists.lent(),
+            text: self.text,
+            claims: self.claims,
+        }
     }
 
     /// The state at the start of a run of one to eight harts, unless one of them makes too many steps up to its first request.
@@ -416,6 +419,13 @@ impl<'a> Parts<'a> {
         ensures { result ≡ record { start = self.now.table.start; states = self.now.table.states; held = held.now } }
     {
         self.lines.memory(held)
+    }
+
+    /// Whether this is the number of a list.
+    pub fn has_list(&self, number: u32) -> bool
+        ensures { result ≡ true → number < length self.now.lists }
+    {
+        (number as usize) < self.lists.count()
     }
 
     /// The list of a number.

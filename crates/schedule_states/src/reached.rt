@@ -1,21 +1,23 @@
 //! States that schedules lead to.
 
-ghost use Rattle.std.specs.Prelude.{◌≡◌, ◌≢◌, ◌⊎◌, ◌<◌, ◌≤◌, ℕ, [], false, true, length, slice_get, None, Some, IfNone, IfOk, IfSome};
+ghost use Rattle.std.specs.Prelude.{◌≡◌, ◌≢◌, ◌⊎◌, ◌++◌, ◌∷◌, ◌<◌, ◌≤◌, ℕ, [], false, true, length, slice_get, slice_index_or, None, Some, IfNone, IfOk, IfSome};
 ghost use Rattle.hart.specs.declared.state.Status.TheVariants.{Running};
 ghost use Rattle.machine.specs.Run.{started};
 ghost use Rattle.schedule_states.specs.Covering.{CoversAt, IsClosedAt, IsMet, PartsEndWell};
 ghost use Rattle.schedule_states.specs.Numbers.{AreKept};
-ghost use Rattle.schedule_states.specs.Ending.{AreTurns, AreTurnsAt, HavePartsStopped, IsTurn};
-ghost use Rattle.schedule_states.specs.Happening.{AreLed, HasHappenedAt, IsLedAs};
+ghost use Rattle.schedule_states.specs.Ending.{AreTurnsAt, HavePartsStopped};
+ghost use Rattle.schedule_states.specs.Happening.{AreLed, HasHappenedAt};
 ghost use Rattle.schedule_states.specs.Judging.{IsGoodMoment, StaysGood};
 ghost use Rattle.schedule_states.specs.Leads.{AreOfHarts};
 ghost use Rattle.schedule_states.specs.Media.{AreOnMedium};
+ghost use Rattle.schedule_states.specs.Onward.{AreTurnsFrom, AreTurnsTo, HaveNumber, IsTurnTo, MayHaveOneMore, only};
 ghost use Rattle.schedule_states.specs.Reaching.{AreNumbered, AreNumbersBefore, AreNumbersOf, ArePartsOf, AreThere, HaveGrown, IsFirst, IsKeptOn, WereBefore};
 ghost use Rattle.schedule_states.specs.States.{AreLists};
 ghost use Rattle.schedule_states.specs.Successors.{HasLists};
 ghost use Rattle.schedule_states.specs.Turns.{MayClaim, MayGo, MayNotGo};
 ghost use Rattle.schedule_states.specs.declared.program_state.HartPart.{HartPart as AHartPart};
 ghost use Rattle.schedule_states.specs.declared.program_state.ProgramState.{ProgramState as AProgramState};
+ghost use Rattle.schedule_states.specs.declared.program_state.StateNumbers.{StateNumbers as SomeNumbers};
 
 use crate::laws::{equal_numbers_are_same, equal_parts_are_same, equal_reserved_are_same};
 use crate::leads::{Lead, Leads};
@@ -36,10 +38,10 @@ use store_trace::Event;
 #[derive(Drop)]
 pub struct Reached<'a, J: StateJudge> {
     parts: Parts<'a>,
-    hart_parts: Numbers<HartPart>,
+    hart_parts: Numbers<'a, HartPart>,
     /// What is kept of the operations.
-    standings: Numbers<J::Standing>,
-    states: Numbers<StateNumbers>,
+    standings: Numbers<'a, J::Standing>,
+    states: Numbers<'a, StateNumbers>,
     leads: Leads,
 }
 
@@ -53,6 +55,9 @@ impl<'a, J: StateJudge> Model for Reached<'a, J> {
 
     ghost invariant = { λ r. AreNumbered (record { parts = r.parts; hart_parts = r.hart_parts; standings = r.standings; states = r.states; harts = r.leads }) };
 }
+
+/// To what the turns of harts 0 to 7 lead from a state: the numbers of the parts of the next one; None where the hart makes no request.
+pub type Turns = [Option<StateNumbers>; 8];
 
 /// Why a search goes no further from a state.
 #[derive(Clone, Copy, Debug, PartialEq, Eq)]
@@ -106,7 +111,8 @@ impl<'a, J: StateJudge> Reached<'a, J> {
             numbers: &[0; 8],
             moved: 0,
         };
-        self.number_of(&start, standing, none)?;
+        let numbers = self.numbers_for(&start, standing, none)?;
+        self.number_of(numbers)?;
         Ok(None)
     }
 
@@ -209,16 +215,18 @@ impl<'a, J: StateJudge> Reached<'a, J> {
         self.leads.requests_to(alloc, number)
     }
 
-    /// Goes on from a state, whose harts run or have stopped as they may, by the next request of each hart that may go, up to one at which it
-    /// stops: the states to which those lead, or the state itself for a hart that makes none.
+    /// Goes on from a state, whose harts run or have stopped as they may, by the next request of each hart that may go: the states to which
+    /// those lead, or the state itself for a hart that makes none. Turns that are known aren't looked for.
     pub fn go_on_all(
         &mut self,
         alloc: Global,
         judge: &J,
         number: u32,
+        known: Option<Turns>,
     ) -> Result<Result<[u32; 8], Stop>, AllocError>
         requires there { number < length self.old.states }
         requires claims { MayClaim (J.allows judge.now) self.old.parts.claims }
+        requires known { IfSome known (AreTurnsFrom (J.stands judge.now) (J.allows judge.now) (J.ends judge.now) self.old number) }
         ensures closed { IfOk result (λ gone. IfOk gone (λ to. IsClosedAt (J.stands judge.now) (J.allows judge.now) (J.ends judge.now) self.new number)) }
         ensures turns { IfOk result (λ gone. IfOk gone (AreTurnsAt (J.stands judge.now) (J.allows judge.now) self.new number)) }
         ensures led { IfOk result (λ gone. IfOk gone (λ to. AreLed (J.stands judge.now) (J.allows judge.now) self.old →
@@ -230,12 +238,136 @@ impl<'a, J: StateJudge> Reached<'a, J> {
     {
         self.are_numbered();
         self.parts.lists_are_there();
+        match self.turns_from(alloc, judge, number, known)? {
+            Ok(turns) => Ok(Ok(self.take_all(judge, number, &turns)?)),
+            Err(stop) => Ok(Err(stop)),
+        }
+    }
+
+    /// To what the turns of the harts lead from a state: as it is known, or else by a look.
+    fn turns_from(
+        &mut self,
+        alloc: Global,
+        judge: &J,
+        number: u32,
+        known: Option<Turns>,
+    ) -> Result<Result<Turns, Stop>, AllocError>
+        requires there { number < length self.old.states }
+        requires claims { MayClaim (J.allows judge.now) self.old.parts.claims }
+        requires known { IfSome known (AreTurnsFrom (J.stands judge.now) (J.allows judge.now) (J.ends judge.now) self.old number) }
+        ensures turns { IfOk result (λ looked. IfOk looked (AreTurnsFrom (J.stands judge.now) (J.allows judge.now) (J.ends judge.now) self.new number)) }
+        ensures grown { HaveGrown self.old self.new }
+        ensures before { WereBefore self.old.parts self.new.parts }
+        ensures states { self.new.states ≡ self.old.states }
+    {
+        match known {
+            Some(turns) => Ok(Ok(turns)),
+            None => self.look(alloc, judge, number),
+        }
+    }
+
+    /// What is known of the turns of the harts at a state, where each leads to a state of parts that have numbers already. Many may look at once.
+    pub fn known_turns(&self, alloc: Global, judge: &J, number: u32) -> Option<Turns>
+        requires there { number < length self.now.states }
+        requires claims { MayClaim (J.allows judge.now) self.now.parts.claims }
+        ensures { IfSome result (AreTurnsFrom (J.stands judge.now) (J.allows judge.now) (J.ends judge.now) self.now number) }
+    {
+        let mut lent = self.lent(alloc);
+        let Ok(Ok(turns)) = lent.look(alloc, judge, number) else {
+            return None;
+        };
+        if self.have_parts(&turns) {
+            Some(turns)
+        } else {
+            None
+        }
+    }
+
+    /// The same states, lent for a look: what has no number there gets none, as if memory were refused for it.
+    fn lent(&self, alloc: Global) -> Reached<'_, J>
+        ensures { result ≡ self.now }
+    {
+        Reached {
+            parts: self.parts.lent(),
+            hart_parts: self.hart_parts.lent(),
+            standings: self.standings.lent(),
+            states: self.states.lent(),
+            leads: Leads::new(alloc, self.leads.harts()),
+        }
+    }
+
+    /// Whether the turns lead to states of parts that are there.
+    fn have_parts(&self, turns: &Turns) -> bool
+        ensures { result ≡ true → (h : ℕ) → h < length turns.now → IfSome (slice_index_or turns.now h None) (AreThere self.now) }
+    {
+        for hart in 0..turns.len() {
+            if !self.has_parts(&turns[hart]) {
+                return false;
+            }
+        }
+        true
+    }
+
+    /// Whether a turn leads to a state of parts that are there, if it leads to one.
+    fn has_parts(&self, next: &Option<StateNumbers>) -> bool
+        ensures { result ≡ true → IfSome next.now (AreThere self.now) }
+    {
+        match next {
+            Some(numbers) => self.is_there(numbers),
+            None => true,
+        }
+    }
+
+    /// Whether the numbers are those of parts that are there.
+    fn is_there(&self, numbers: &StateNumbers) -> bool
+        ensures { result ≡ true → AreThere self.now numbers.now }
+    {
+        if !self.parts.has_list(numbers.memory)
+            || numbers.standing as usize >= self.standings.as_slice().len()
+        {
+            return false;
+        }
+        let count = self.leads.harts();
+        for hart in 0..count {
+            if !self.is_part_there(numbers.harts[hart as usize]) {
+                return false;
+            }
+        }
+        true
+    }
+
+    /// Whether this is the number of a hart's part that is there, with its text.
+    fn is_part_there(&self, number: u32) -> bool
+        ensures { result ≡ true → (part : AHartPart) × (slice_get self.now.hart_parts number ≡ Some part) × (part.text < length self.now.parts.lists) }
+    {
+        match self.hart_parts.as_slice().get(number as usize) {
+            Some(part) => self.parts.has_list(part.text),
+            None => false,
+        }
+    }
+
+    /// To what the turns of the harts lead from a state, whose harts run or have stopped as they may, up to one at which the search stops.
+    fn look(
+        &mut self,
+        alloc: Global,
+        judge: &J,
+        number: u32,
+    ) -> Result<Result<Turns, Stop>, AllocError>
+        requires there { number < length self.old.states }
+        requires claims { MayClaim (J.allows judge.now) self.old.parts.claims }
+        ensures turns { IfOk result (λ looked. IfOk looked (AreTurnsFrom (J.stands judge.now) (J.allows judge.now) (J.ends judge.now) self.new number)) }
+        ensures grown { HaveGrown self.old self.new }
+        ensures before { WereBefore self.old.parts self.new.parts }
+        ensures states { self.new.states ≡ self.old.states }
+    {
+        self.are_numbered();
+        self.parts.lists_are_there();
         let numbers = self.numbers(number);
         let state = self.state(alloc, &numbers)?;
         if let Some(hart) = ended_badly(judge, &state.harts) {
             return Ok(Err(Stop::Ended(hart)));
         }
-        self.turns(alloc, judge, number, &state, &numbers)
+        self.turns(alloc, judge, &state, &numbers)
     }
 
     /// Each state has the numbers of parts that are there.
@@ -246,39 +378,68 @@ impl<'a, J: StateJudge> Reached<'a, J> {
         let _ = &self.states;
     }
 
-    /// Goes on by the next request of each hart that may go from the state of a number, whose parts have these numbers, to these states.
+    /// To what the turns of the harts lead from a state, whose parts have these numbers.
     fn turns(
         &mut self,
         alloc: Global,
         judge: &J,
-        number: u32,
         state: &ProgramState,
         numbers: &StateNumbers,
-    ) -> Result<Result<[u32; 8], Stop>, AllocError>
+    ) -> Result<Result<Turns, Stop>, AllocError>
         requires parts { ArePartsOf self.old numbers.now self.old.harts state.now.harts.items }
         requires lists { HasLists self.old.parts state.now }
         requires standing { numbers.now.standing < length self.old.standings }
         requires claims { MayClaim (J.allows judge.now) self.old.parts.claims }
-        requires met { (t : J.Standing) → slice_get self.old.standings numbers.now.standing ≡ Some t → IsMet self.old number state.now t }
-        ensures turns { IfOk result (λ gone. IfOk gone (λ to. (t : J.Standing) → slice_get self.old.standings numbers.now.standing ≡ Some t →
-            AreTurns (J.stands judge.now) (J.allows judge.now) self.new state.now t self.new.harts to)) }
-        ensures led { IfOk result (λ gone. IfOk gone (λ to. (t : J.Standing) → slice_get self.old.standings numbers.now.standing ≡ Some t →
-            IsLedAs (J.stands judge.now) (J.allows judge.now) self.old state.now t → AreLed (J.stands judge.now) (J.allows judge.now) self.old →
-            AreLed (J.stands judge.now) (J.allows judge.now) self.new)) }
+        ensures turns { IfOk result (λ looked. IfOk looked (λ turns. (t : J.Standing) → slice_get self.old.standings numbers.now.standing ≡ Some t →
+            AreTurnsTo (J.stands judge.now) (J.allows judge.now) self.new state.now t self.new.harts turns)) }
         ensures grown { HaveGrown self.old self.new }
         ensures before { WereBefore self.old.parts self.new.parts }
+        ensures states { self.new.states ≡ self.old.states }
+    {
+        self.are_numbered();
+        let mut turns = [None; 8];
+        let harts = self.leads.harts();
+        for hart in 0..harts {
+            match self.turn(alloc, judge, state, numbers, hart)? {
+                Ok(next) => turns[hart as usize] = next,
+                Err(stop) => return Ok(Err(stop)),
+            }
+        }
+        Ok(Ok(turns))
+    }
+
+    /// The states to which the turns of the harts lead from the state of a number: that state itself for a hart that makes no request.
+    fn take_all(&mut self, judge: &J, number: u32, turns: &Turns) -> Result<[u32; 8], AllocError>
+        requires turns { AreTurnsFrom (J.stands judge.now) (J.allows judge.now) (J.ends judge.now) self.old number turns.now }
+        ensures closed { IfOk result (λ to. IsClosedAt (J.stands judge.now) (J.allows judge.now) (J.ends judge.now) self.new number) }
+        ensures turns { IfOk result (AreTurnsAt (J.stands judge.now) (J.allows judge.now) self.new number) }
+        ensures led { IfOk result (λ to. AreLed (J.stands judge.now) (J.allows judge.now) self.old → AreLed (J.stands judge.now) (J.allows judge.now) self.new) }
+        ensures grown { HaveGrown self.old self.new }
+        ensures parts { self.new.parts ≡ self.old.parts }
     {
         self.are_numbered();
         let mut to = [number; 8];
         let harts = self.leads.harts();
         for hart in 0..harts {
-            match self.go_on(alloc, judge, state, numbers, hart)? {
-                Ok(next) => to[hart as usize] = next.unwrap_or(number),
-                Err(stop) => return Ok(Err(stop)),
-            }
+            let next = self.take(turns[hart as usize])?;
+            to[hart as usize] = next.unwrap_or(number);
             self.note(Lead { from: number, hart })?;
         }
-        Ok(Ok(to))
+        Ok(to)
+    }
+
+    /// The number of the state with parts of these numbers, if there is one. It is a new one where the state wasn't reached yet.
+    fn take(&mut self, next: Option<StateNumbers>) -> Result<Option<u32>, AllocError>
+        requires there { IfSome next (AreThere self.old) }
+        ensures number { IfOk result (HaveNumber self.new.states next) }
+        ensures more { MayHaveOneMore self.old.states self.new.states next }
+        ensures grown { HaveGrown self.old self.new }
+        ensures parts { self.new.parts ≡ self.old.parts }
+    {
+        match next {
+            Some(numbers) => Ok(Some(self.number_of(numbers)?)),
+            None => Ok(None),
+        }
     }
 
     /// Whether a hart may go, where what has this number is kept.
@@ -292,27 +453,25 @@ impl<'a, J: StateJudge> Reached<'a, J> {
         judge.may_go(&self.standings.as_slice()[standing as usize], hart)
     }
 
-    /// Goes on by the next request of a hart, if it may go, from a state, whose parts have these numbers: the state to which that leads.
-    fn go_on(
+    /// To what the next request of a hart leads, if it may go, from a state, whose parts have these numbers; None where it makes no request.
+    fn turn(
         &mut self,
         alloc: Global,
         judge: &J,
         state: &ProgramState,
         numbers: &StateNumbers,
         hart: u32,
-    ) -> Result<Result<Option<u32>, Stop>, AllocError>
+    ) -> Result<Result<Option<StateNumbers>, Stop>, AllocError>
         requires there { hart < self.old.harts }
         requires parts { ArePartsOf self.old numbers.now self.old.harts state.now.harts.items }
         requires lists { HasLists self.old.parts state.now }
         requires standing { numbers.now.standing < length self.old.standings }
         requires claims { MayClaim (J.allows judge.now) self.old.parts.claims }
-        ensures turn { IfOk result (λ gone. IfOk gone (λ next. (t : J.Standing) → slice_get self.old.standings numbers.now.standing ≡ Some t →
-            IsTurn (J.stands judge.now) (J.allows judge.now) self.new state.now t hart next)) }
-        ensures led { IfOk result (λ gone. IfOk gone (λ next. (t : J.Standing) → slice_get self.old.standings numbers.now.standing ≡ Some t →
-            IsLedAs (J.stands judge.now) (J.allows judge.now) self.old state.now t → AreLed (J.stands judge.now) (J.allows judge.now) self.old →
-            AreLed (J.stands judge.now) (J.allows judge.now) self.new)) }
+        ensures turn { IfOk result (λ looked. IfOk looked (λ next. (t : J.Standing) → slice_get self.old.standings numbers.now.standing ≡ Some t →
+            IsTurnTo (J.stands judge.now) (J.allows judge.now) self.new state.now t hart next)) }
         ensures grown { HaveGrown self.old self.new }
         ensures before { WereBefore self.old.parts self.new.parts }
+        ensures states { self.new.states ≡ self.old.states }
     {
         if !self.may_go(judge, numbers.standing, hart) {
             return Ok(Ok(None));
@@ -330,8 +489,8 @@ impl<'a, J: StateJudge> Reached<'a, J> {
                     numbers: &numbers.harts,
                     moved: hart,
                 };
-                let number = self.number_of(&next, standing, before)?;
-                Ok(Ok(Some(number)))
+                let to = self.numbers_for(&next, standing, before)?;
+                Ok(Ok(Some(to)))
             }
             Successor::Stopped => Ok(Ok(None)),
             Successor::TooLong => Ok(Err(Stop::TooLong(hart))),
@@ -347,34 +506,43 @@ impl<'a, J: StateJudge> Reached<'a, J> {
         self.leads.note(self.states.as_slice().len(), lead)
     }
 
-    /// The number of a state, which is a new one where it wasn't reached yet.
-    fn number_of(
+    /// The numbers of the parts of a state.
+    fn numbers_for(
         &mut self,
         state: &ProgramState,
         standing: u32,
         before: Before<'_>,
-    ) -> Result<u32, AllocError>
+    ) -> Result<StateNumbers, AllocError>
         requires count { length state.now.harts.items ≡ self.old.harts }
         requires lists { HasLists self.old.parts state.now }
         requires standing { standing < length self.old.standings }
         requires before { AreNumbersBefore self.old.hart_parts before.parts.now before.numbers.now before.moved state.now.harts.items }
-        ensures met { IfOk result (λ number. (t : J.Standing) → slice_get self.old.standings standing ≡ Some t → IsMet self.new number state.now t) }
-        ensures only { IfOk result (λ number. (t : J.Standing) → slice_get self.old.standings standing ≡ Some t → (n : ℕ) → n < length self.new.states →
-            (n < length self.old.states) ⊎ IsMet self.new n state.now t) }
+        ensures met { IfOk result (λ numbers. (t : J.Standing) → slice_get self.old.standings standing ≡ Some t → IsMet (only self.new numbers) 0 state.now t) }
+        ensures there { IfOk result (AreThere self.new) }
         ensures grown { HaveGrown self.old self.new }
-        ensures first { self.old.states ≡ [] → IfOk result (λ number. number ≡ 0) }
+        ensures states { self.new.states ≡ self.old.states }
         ensures parts { self.new.parts ≡ self.old.parts }
         ensures standings { self.new.standings ≡ self.old.standings }
     {
         let harts = numbers_of(&mut self.hart_parts, &state.harts, before)?;
-        let numbers = StateNumbers {
+        Ok(StateNumbers {
             harts,
             memory: state.memory,
             standing,
-        };
+        })
+    }
+
+    /// The number of the state with parts of these numbers, which is a new one where it wasn't reached yet.
+    fn number_of(&mut self, numbers: StateNumbers) -> Result<u32, AllocError>
+        requires there { AreThere self.old numbers }
+        ensures number { IfOk result (λ number. slice_get self.new.states number ≡ Some numbers) }
+        ensures more { (self.new.states ≡ self.old.states) ⊎ (self.new.states ≡ self.old.states ++ numbers ∷ []) }
+        ensures grown { HaveGrown self.old self.new }
+        ensures parts { self.new.parts ≡ self.old.parts }
+        ensures standings { self.new.standings ≡ self.old.standings }
+    {
         equal_numbers_are_same();
-        let number = self.states.number_of(numbers)?;
-        Ok(number)
+        self.states.number_of(numbers)
     }
 }
 
@@ -427,7 +595,7 @@ fn is_well<J: StateJudge>(judge: &J, status: Status) -> bool
 fn first_standing<J: StateJudge>(
     alloc: Global,
     judge: &J,
-    known: &mut Numbers<J::Standing>,
+    known: &mut Numbers<'_, J::Standing>,
 ) -> Result<u32, AllocError>
     ensures kept { AreKept known.old known.new }
     ensures first { IfOk result (IsFirst (J.stands judge.now) known.new) }
@@ -440,7 +608,7 @@ fn first_standing<J: StateJudge>(
 fn standing_after<J: StateJudge>(
     alloc: Global,
     judge: &J,
-    known: &mut Numbers<J::Standing>,
+    known: &mut Numbers<'_, J::Standing>,
     standing: u32,
     mark: Option<Event>,
 ) -> Result<Option<u32>, AllocError>
@@ -468,7 +636,7 @@ struct Before<'b> {
 
 /// The numbers of parts of harts, and zero behind them.
 fn numbers_of(
-    known: &mut Numbers<HartPart>,
+    known: &mut Numbers<'_, HartPart>,
     parts: &[HartPart],
     before: Before<'_>,
 ) -> Result<[u32; 8], AllocError>
@@ -486,7 +654,7 @@ fn numbers_of(
 
 /// The number of a hart's part, which is that of before where another hart has moved and this one has reserved the same line.
 fn number_at(
-    known: &mut Numbers<HartPart>,
+    known: &mut Numbers<'_, HartPart>,
     part: HartPart,
     before: Before<'_>,
     hart: usize,

@@ -32,7 +32,7 @@ pub trait StateJudge {
     ghost use Rattle.store_trace.specs.declared.event.Event.{Event as AnEvent};
 
     /// What is kept of the operations.
-    type Standing: Eq + Hash + Drop;
+    type Standing: Eq + Hash + Drop + Send + Sync;
 
     /// What images are judged in, one state after the other, and what is noted of them.
     type Workspace: Drop;

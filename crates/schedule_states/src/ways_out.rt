@@ -38,7 +38,7 @@ pub fn all_judged<J: StateJudge>(
 }
 
 /// So many states and moments were judged.
-fn all_of<J: StateJudge>(reached: &Reached<'_, J>, moments: &Numbers<Moment>) -> Explored
+fn all_of<J: StateJudge>(reached: &Reached<'_, J>, moments: &Numbers<'_, Moment>) -> Explored
     ensures { IsAll result }
 {
     Explored::All {

@@ -86,6 +86,7 @@ static CASES: [Case; 10] = [
         limits: Limits {
             states: 1_000,
             any_end: false,
+            workers: 1,
         },
         known: Known::Pass {
             states: 7,
@@ -101,6 +102,7 @@ static CASES: [Case; 10] = [
         limits: Limits {
             states: 250,
             any_end: false,
+            workers: 1,
         },
         known: Known::Pass {
             states: 205,
@@ -115,6 +117,7 @@ static CASES: [Case; 10] = [
         limits: Limits {
             states: 100,
             any_end: false,
+            workers: 1,
         },
         known: Known::TooMany(Bound::States),
     },
@@ -126,6 +129,7 @@ static CASES: [Case; 10] = [
         limits: Limits {
             states: 44,
             any_end: false,
+            workers: 1,
         },
         known: Known::TooMany(Bound::Sequential),
     },
@@ -137,6 +141,7 @@ static CASES: [Case; 10] = [
         limits: Limits {
             states: 1_000,
             any_end: false,
+            workers: 1,
         },
         known: Known::Fail {
             moment: 5,
@@ -151,6 +156,7 @@ static CASES: [Case; 10] = [
         limits: Limits {
             states: 1_000,
             any_end: false,
+            workers: 1,
         },
         known: Known::Refused(MarkFault::Overlaps),
     },
@@ -162,6 +168,7 @@ static CASES: [Case; 10] = [
         limits: Limits {
             states: 1_000,
             any_end: false,
+            workers: 1,
         },
         known: Known::Refused(MarkFault::NoOperation),
     },
@@ -174,6 +181,7 @@ static CASES: [Case; 10] = [
         limits: Limits {
             states: 1_000,
             any_end: false,
+            workers: 1,
         },
         known: Known::NotWhole(1),
     },
@@ -185,6 +193,7 @@ static CASES: [Case; 10] = [
         limits: Limits {
             states: 1_000,
             any_end: true,
+            workers: 1,
         },
         known: Known::Refused(MarkFault::NoOperation),
     },
@@ -196,6 +205,7 @@ static CASES: [Case; 10] = [
         limits: Limits {
             states: 1_000,
             any_end: false,
+            workers: 1,
         },
         known: Known::TooMany(Bound::Steps),
     },

@@ -439,6 +439,7 @@ fn passes<T: Threads + Sync>(rt: &T, alloc: Global, case: Case) -> Option<bool> 
     let limits = Limits {
         states: 10_000,
         any_end: false,
+        workers: 1,
     };
     match judge_all(rt, alloc, recovery, setup, limits, &mut Unwatched).ok()? {
         Outcome::Pass { .. } => Some(true),

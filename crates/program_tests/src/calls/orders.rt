@@ -260,6 +260,7 @@ fn passes<T: Threads + Sync>(
     let limits = Limits {
         states: 1_000,
         any_end,
+        workers: 1,
     };
     let outcome = routine.outcome(rt, alloc, plan, limits)?;
     Some(matches!(outcome, Outcome::Pass { .. }))

@@ -106,6 +106,7 @@ static CASES: [Case; 14] = [
         limits: Limits {
             states: 1_000,
             any_end: false,
+            workers: 1,
         },
         known: Known::Pass {
             states: 5,
@@ -121,6 +122,7 @@ static CASES: [Case; 14] = [
         limits: Limits {
             states: 1_000,
             any_end: false,
+            workers: 1,
         },
         known: Known::Pass {
             states: 25,
@@ -136,6 +138,7 @@ static CASES: [Case; 14] = [
         limits: Limits {
             states: 125,
             any_end: false,
+            workers: 1,
         },
         known: Known::Pass {
             states: 125,
@@ -151,6 +154,7 @@ static CASES: [Case; 14] = [
         limits: Limits {
             states: 124,
             any_end: false,
+            workers: 1,
         },
         known: Known::TooMany(Bound::States),
     },
@@ -163,6 +167,7 @@ static CASES: [Case; 14] = [
         limits: Limits {
             states: 79,
             any_end: false,
+            workers: 1,
         },
         known: Known::Pass {
             states: 79,
@@ -178,6 +183,7 @@ static CASES: [Case; 14] = [
         limits: Limits {
             states: 1_000,
             any_end: false,
+            workers: 1,
         },
         known: Known::Pass {
             states: 391,
@@ -193,6 +199,7 @@ static CASES: [Case; 14] = [
         limits: Limits {
             states: 0,
             any_end: false,
+            workers: 1,
         },
         known: Known::TooMany(Bound::States),
     },
@@ -205,6 +212,7 @@ static CASES: [Case; 14] = [
         limits: Limits {
             states: 1_000,
             any_end: false,
+            workers: 1,
         },
         known: Known::Pass {
             states: 79,
@@ -220,6 +228,7 @@ static CASES: [Case; 14] = [
         limits: Limits {
             states: 1_000,
             any_end: false,
+            workers: 1,
         },
         known: Known::Pass {
             states: 568,
@@ -235,6 +244,7 @@ static CASES: [Case; 14] = [
         limits: Limits {
             states: 1_000,
             any_end: false,
+            workers: 1,
         },
         known: Known::Refused(OpFault::SharesInode),
     },
@@ -247,6 +257,7 @@ static CASES: [Case; 14] = [
         limits: Limits {
             states: 1_000,
             any_end: false,
+            workers: 1,
         },
         known: Known::Fail {
             moment: 5,
@@ -262,6 +273,7 @@ static CASES: [Case; 14] = [
         limits: Limits {
             states: 1_000,
             any_end: false,
+            workers: 1,
         },
         known: Known::TooMany(Bound::Steps),
     },
@@ -275,6 +287,7 @@ static CASES: [Case; 14] = [
         limits: Limits {
             states: 1_000,
             any_end: false,
+            workers: 1,
         },
         known: Known::NotWhole(4),
     },
@@ -287,6 +300,7 @@ static CASES: [Case; 14] = [
         limits: Limits {
             states: 1,
             any_end: true,
+            workers: 1,
         },
         known: Known::Pass {
             states: 1,

@@ -110,6 +110,7 @@ fn in_turn<T: Threads + Sync>(rt: &T, alloc: Global, harts: u32) -> Option<(usiz
         medium: &setup.medium,
         harts: setup.harts,
         most: 1_000,
+        workers: 1,
     };
     let mut most = 0;
     match explore(rt, alloc, &InTurn, start, &mut most, &mut Unwatched).ok()? {

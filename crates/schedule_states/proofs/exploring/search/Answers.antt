@@ -7,6 +7,7 @@ use Rattle.schedule_states.proofs.Covered.{ends_either, good_either, may_claim, 
 use Rattle.schedule_states.proofs.Happening.{happening}
 use Rattle.schedule_states.proofs.Judging.{below_noted, good_next, leads_found, moments_kept, nowhere_found, nowhere_more, told_found, told_more}
 use Rattle.schedule_states.proofs.Looking.{within_kept}
+use Rattle.schedule_states.proofs.Onward.{known_kept, known_none, known_of}
 use Rattle.schedule_states.proofs.Turning.{turns_next}
 use Rattle.schedule_states.specs.Covering.{IsClosed, IsClosedAt}
 use Rattle.schedule_states.specs.Ending.{AreTurnsBelow}
@@ -32,7 +33,8 @@ loop-number-init g c = record {
   asked = refl;
   turns = λ asked. record { count_is = rw c.requires.new.2 refl; each = λ n to found. let none : slice_get [] n ≡ Some to = rw c.requires.new.2 at found in absurd cc };
   within = omega arith;
-  most = refl;
+  limits = refl;
+  known = known_none (g.J.StateJudge.stands c.args.judge.now) (g.J.StateJudge.allows c.args.judge.now) (g.J.StateJudge.ends c.args.judge.now) c.args.reached.now _ _ c.none-known.ensures;
   fits = c.requires.given.0;
   kept = λ events full image good. good;
   told = nothing;
@@ -212,7 +214,9 @@ loop-number-preserved g c =
           rw noted (turns_next (g.J.StateJudge.stands c.args.judge.now) (g.J.StateJudge.allows c.args.judge.now) c.loop-number.reached c.go_on_all.new.self c.loop-number.judged.ways.next.items
           c.loop-number.number c.in-Ok.to c.go_on_all.ensures.before.0 c.go_on_all.ensures.grown c.go_on_all.ensures.before.2 there (rw c.in-Ok.is at c.in_ok-to.ensures.turns) (c.loop-number.invariant.turns asked));
       within = omega (arith, within_kept c.loop-number.reached.states c.go_on_all.new.self.states c.loop-number.number c.go_on_all.ensures.grown.states there);
-      most = c.judge_state.ensures.most ∙ c.loop-number.invariant.most;
+      limits = c.judge_state.ensures.limits ∙ c.loop-number.invariant.limits;
+      known = known_kept (g.J.StateJudge.stands c.args.judge.now) (g.J.StateJudge.allows c.args.judge.now) (g.J.StateJudge.ends c.args.judge.now) c.loop-number.reached c.go_on_all.new.self _ _
+          c.go_on_all.ensures.before.0 c.go_on_all.ensures.grown c.go_on_all.ensures.before.2 c.look_ahead.ensures;
       fits = rw start c.judge_state.ensures.fits;
       kept = λ events full image good. c.judge_state.ensures.kept events full image (c.loop-number.invariant.kept events full image good);
       told = c.tell.ensures c.args.watcher.now c.loop-number.invariant.told;
@@ -227,3 +231,11 @@ judge_state-requires-clause-happens g c κs within =
 pub go_on_all-requires-clause-claims : goal.go_on_all-requires-clause-claims
 go_on_all-requires-clause-claims g c = may_claim (g.J.StateJudge.allows c.args.judge.now) _ c.loop-number.reached.parts.claims
     (rw (sym c.loop-number.invariant.claims) at c.requires.reduced)
+
+pub look_ahead-requires-clause-claims : goal.look_ahead-requires-clause-claims
+look_ahead-requires-clause-claims g c = may_claim (g.J.StateJudge.allows c.args.judge.now) _ c.loop-number.reached.parts.claims
+    (rw (sym c.loop-number.invariant.claims) at c.requires.reduced)
+
+pub go_on_all-requires-clause-known : goal.go_on_all-requires-clause-known
+go_on_all-requires-clause-known g c = known_of (g.J.StateJudge.stands c.args.judge.now) (g.J.StateJudge.allows c.args.judge.now) (g.J.StateJudge.ends c.args.judge.now) c.loop-number.reached _ c.loop-number.number _
+    c.of.result c.look_ahead.ensures c.of.ensures

@@ -4,6 +4,7 @@ use Rattle.schedule_states.specs.Covering.{CoversAt, IsClosedBelow}
 use Rattle.schedule_states.specs.Ending.{AreTurnsBelow}
 use Rattle.schedule_states.specs.Happening.{AreLed}
 use Rattle.schedule_states.specs.Judging.{AreGoodBelow, AreGoodMoments, StaysGood}
+use Rattle.schedule_states.specs.Onward.{AreKnownFrom}
 use Rattle.schedule_states.specs.Watching.{HasHeard}
 use Rattle.schedule_states.proofs.exploring.search.Given as goal
 
@@ -21,7 +22,8 @@ invariant-loop-number g l = record {
   asked : l.judged.ways.asked ≡ l.initial.judged.ways.asked;
   turns : l.initial.judged.ways.asked ≡ true → AreTurnsBelow (g.J.StateJudge.stands l.judge) (g.J.StateJudge.allows l.judge) l.reached l.judged.ways.next.items l.number;
   within : l.number ≤ length l.reached.states;
-  most : l.judged.most ≡ l.initial.judged.most;
+  limits : l.judged.limits ≡ l.initial.judged.limits;
+  known : AreKnownFrom (g.J.StateJudge.stands l.judge) (g.J.StateJudge.allows l.judge) (g.J.StateJudge.ends l.judge) l.reached l.known.first l.known.turns.items;
   fits : g.J.StateJudge.fits l.judge (length l.reached.parts.table.start.medium) l.workspace;
   kept : StaysGood (g.J.StateJudge.good l.judge l.initial.workspace) (g.J.StateJudge.good l.judge l.workspace);
   told : HasHeard g.W.Watcher.hears l.initial.watcher l.watcher;

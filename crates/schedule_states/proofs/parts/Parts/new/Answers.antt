@@ -28,6 +28,4 @@ invariant_of-result c =
       ];
       first = first_of_one c.number_of.new.self [] c.in_ok-number_of.field-0 appended found;
     } in
-    let copied : c.in-Ok-new.text ≡ c.in-Ok.start.program.text = search rules in
-    let whole : length c.in-Ok.start.program.text ≡ TEXT_SIZE = search rules in
-    (lists, rw (c.new-4.ensures, copied) (text_at_start c.in-Ok.start whole))
+    (lists, rw (c.lines.ensures, c.new-4.ensures) c.text.ensures)

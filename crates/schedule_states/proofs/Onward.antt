@@ -1,0 +1,300 @@
+-- The turns of harts, before the states to which they lead have numbers.
+use Rattle.std.proofs.Common.{◌≡◌, ◌⊎◌, inl, inr, ℕ, zero, suc, ◌+◌, ◌<◌, ◌≤◌, List, [], ◌∷◌, ◌++◌, Option, Some, None, length, slice_get, slice_index_or, slice_set, refl, sym, ap, ◌∙◌, subst, arith}
+use Rattle.std.specs.Prelude.{IfSome}
+use Rattle.std.proofs.lemmas.Bool.{cases_eq}
+use Rattle.std.proofs.lemmas.Option.{same_Some, slice_get_within}
+use Rattle.bus.proofs.Places.{read_else, read_set, there_is}
+use Rattle.hart.specs.declared.need.Request.{Request}
+use Rattle.hart.specs.declared.state.Status.{Status}
+use Rattle.machine.specs.Run.{Config, started}
+use Rattle.store_trace.specs.declared.event.Event.{Event}
+use Rattle.schedule_states.proofs.Closing.{met_before, taken_kept}
+use Rattle.schedule_states.proofs.Covering.{stands_grown}
+use Rattle.schedule_states.proofs.Happening.{led_as_kept, led_grown, led_to_kept}
+use Rattle.schedule_states.proofs.Looking.{got_appended}
+use Rattle.schedule_states.proofs.Numbering.{lists_of_met, met_kept, numbers_there}
+use Rattle.schedule_states.proofs.Turning.{way_kept}
+use Rattle.schedule_states.specs.Behind.{GoesOwnBy, IsFit}
+use Rattle.schedule_states.specs.Claims.{claim_in}
+use Rattle.schedule_states.specs.Covering.{CoversAt, IsMet, IsTaken, ReachedView, StandsAs}
+use Rattle.schedule_states.specs.Ending.{IsTurn, IsWayTo, LeadsTo}
+use Rattle.schedule_states.specs.Happening.{AreLed, IsLed, IsLedAs, IsLedTo}
+use Rattle.schedule_states.specs.Onward.{AreKnownFrom, AreTurnsFrom, AreTurnsTo, HaveNumber, IsTurnTo, LeadsToParts, MayHaveOneMore, only}
+use Rattle.schedule_states.specs.Reaching.{AreNumbered, AreThere, HaveGrown, WereBefore}
+use Rattle.schedule_states.specs.StartLines.{StartView}
+use Rattle.schedule_states.specs.States.{PartsView, StandsFor}
+use Rattle.schedule_states.specs.Successors.{HasLists}
+use Rattle.schedule_states.specs.declared.claims.ClaimedLine.{ClaimedLine}
+use Rattle.schedule_states.specs.declared.program_state.ProgramState.{ProgramState}
+use Rattle.schedule_states.specs.declared.program_state.StateNumbers.{StateNumbers}
+
+-- one state alone
+pub only_grown : {T : Type 0} (old new : ReachedView T) (numbers : StateNumbers) → HaveGrown old new → HaveGrown (only old numbers) (only new numbers)
+only_grown old new numbers grown = record {
+  parts = grown.parts;
+  hart_parts = grown.hart_parts;
+  standings = grown.standings;
+  states = λ n value found. found;
+  harts = grown.harts;
+}
+
+only_each : {T : Type 0} (r : ReachedView T) (numbers : StateNumbers) → AreThere r numbers → (n : ℕ) (one : StateNumbers) → slice_get (numbers ∷ []) n ≡ Some one →
+    AreThere (only r numbers) one
+only_each r numbers there zero one found = subst (λ (x : StateNumbers). AreThere (only r numbers) x) (same_Some numbers one found)
+    (record { memory = there.memory; standing = there.standing; harts = there.harts })
+only_each r numbers there (suc n) one found = absurd cc
+
+pub only_numbered : {T : Type 0} (r : ReachedView T) (numbers : StateNumbers) → r.harts ≤ 8 → AreThere r numbers → AreNumbered (only r numbers)
+only_numbered r numbers few there = record { few = few; each = only_each r numbers there }
+
+-- what the states of grown parts stand for they stood for before, where they were there
+pub covers_at_before : {T : Type 0} (stands : T → List Event → Type 0) (old new : ReachedView T) (n : ℕ) (d : Config) → AreNumbered old → HaveGrown old new →
+    WereBefore old.parts new.parts → n < length old.states → CoversAt stands new n d → CoversAt stands old n d
+covers_at_before stands old new n d are grown before there at =
+    let number : at.0.number < length old.states = subst (λ (k : ℕ). k < length old.states) (sym at.1) there in
+    let met : IsMet old at.0.number at.0.state at.0.standing = met_before old new at.0.number at.0.state at.0.standing are grown number at.0.met in
+    let lists : HasLists old.parts at.0.state = lists_of_met old at.0.number at.0.state at.0.standing met (are.each at.0.number met.numbers met.found) in (
+      record {
+        state = at.0.state;
+        standing = at.0.standing;
+        number = at.0.number;
+        met = met;
+        stands_as = (before at.0.state d lists at.0.stands_as.0, at.0.stands_as.1);
+      },
+      at.1,
+    )
+
+taken_before : {T : Type 0} (stands : T → List Event → Type 0) (old new : ReachedView T) (t : T) (h n : ℕ) (c d : Config) (request : Request) → AreNumbered old → HaveGrown old new →
+    WereBefore old.parts new.parts → n < length old.states → IsTaken stands new t h n c d request → IsTaken stands old t h n c d request
+unfolding covers_at_before
+taken_before stands old new t h n c d request are grown before there taken = record {
+  fits = subst (λ (claims : List ClaimedLine). IsFit (claim_in claims) h request) grown.parts.claims taken.fits;
+  steps = taken.steps;
+  end = taken.end;
+  goes = subst (λ (claims : List ClaimedLine). GoesOwnBy (claim_in claims) h taken.steps d taken.end) grown.parts.claims taken.goes;
+  none = λ none. taken.none (grown.parts.claims ∙ none);
+  at = covers_at_before stands old new n taken.end are grown before there taken.at;
+  kept = taken.kept;
+}
+
+way_before : {T : Type 0} (stands : T → List Event → Type 0) (old new : ReachedView T) (s : ProgramState) (t : T) (n : ℕ) → AreNumbered old → HaveGrown old new →
+    WereBefore old.parts new.parts → n < length old.states → IsWayTo stands new s t n → IsWayTo stands old s t n
+way_before stands old new s t n are grown before there way = record {
+  there = there;
+  leads = λ c stands_as.
+      let on : LeadsTo stands new c n = way.leads c (stands_grown old.parts new.parts s c grown.parts stands_as.0, stands_as.1) in
+      record { steps = on.steps; end = on.end; runs = on.runs; covers = covers_at_before stands old new n on.end are grown before there on.covers };
+}
+
+pub led_as_before : {T : Type 0} (stands : T → List Event → Type 0) (allows : List Event → ℕ → Type 0) (old new : ReachedView T) (s : ProgramState) (t : T) → HasLists old.parts s →
+    HaveGrown old new → WereBefore old.parts new.parts → IsLedAs stands allows new s t → IsLedAs stands allows old s t
+led_as_before stands allows old new s t lists grown before is =
+    let same : started new.parts.table.start.program new.parts.table.start.medium new.harts ≡ started old.parts.table.start.program old.parts.table.start.medium old.harts =
+    ap (λ (start : StartView). started start.program start.medium new.harts) grown.parts.table.start
+    ∙ ap (λ (harts : ℕ). started old.parts.table.start.program old.parts.table.start.medium harts) grown.harts in record {
+      end = is.end;
+      led = subst (λ (start : Config). IsLed allows start is.end) same is.led;
+      stands_as = (before s is.end lists is.stands_as.0, is.stands_as.1);
+    }
+
+led_to_before : {T : Type 0} (stands : T → List Event → Type 0) (allows : List Event → ℕ → Type 0) (old new : ReachedView T) (n : ℕ) → AreNumbered old → HaveGrown old new →
+    WereBefore old.parts new.parts → n < length old.states → IsLedTo stands allows new n → IsLedTo stands allows old n
+led_to_before stands allows old new n are grown before there is =
+    let met : IsMet old n is.state is.standing = met_before old new n is.state is.standing are grown there is.met in
+    let lists : HasLists old.parts is.state = lists_of_met old n is.state is.standing met (are.each n met.numbers met.found) in record {
+      state = is.state;
+      standing = is.standing;
+      met = met;
+      led_as = led_as_before stands allows old new is.state is.standing lists grown before is.led_as;
+    }
+
+-- turns, as the parts grow
+pub turn_to_kept : {T : Type 0} (stands : T → List Event → Type 0) (allows : List Event → ℕ → Type 0) (old new : ReachedView T) (s : ProgramState) (t : T) (h : ℕ)
+    (next : Option StateNumbers) → HasLists old.parts s → HaveGrown old new → WereBefore old.parts new.parts → IsTurnTo stands allows old s t h next →
+    IsTurnTo stands allows new s t h next
+turn_to_kept stands allows old new s t h (Some numbers) lists grown before turn =
+    let more : HaveGrown (only old numbers) (only new numbers) = only_grown old new numbers grown in record {
+      there = numbers_there old new numbers grown turn.there;
+      turn = (
+        λ c d stands_as may asks. taken_kept stands (only old numbers) (only new numbers) t h 0 c d asks.request more
+            (turn.turn.0 c d (before s c lists stands_as.0, stands_as.1) may asks),
+        way_kept stands (only old numbers) (only new numbers) s t 0 lists more before turn.turn.1,
+      );
+      led = λ led. led_to_kept stands allows (only old numbers) (only new numbers) 0 more (turn.led (led_as_before stands allows old new s t lists grown before led));
+    }
+turn_to_kept stands allows old new s t h None lists grown before turn = λ c d stands_as may asks. turn c d (before s c lists stands_as.0, stands_as.1) may asks
+
+-- turns that lead to parts that were there before
+pub turn_to_before : {T : Type 0} (stands : T → List Event → Type 0) (allows : List Event → ℕ → Type 0) (old new : ReachedView T) (s : ProgramState) (t : T) (h : ℕ)
+    (next : Option StateNumbers) → old.harts ≤ 8 → ((numbers : StateNumbers) → next ≡ Some numbers → AreThere old numbers) → HaveGrown old new → WereBefore old.parts new.parts →
+    IsTurnTo stands allows new s t h next → IsTurnTo stands allows old s t h next
+turn_to_before stands allows old new s t h (Some numbers) few there grown before turn =
+    let here : AreThere old numbers = there numbers refl in
+    let are : AreNumbered (only old numbers) = only_numbered old numbers few here in
+    let more : HaveGrown (only old numbers) (only new numbers) = only_grown old new numbers grown in
+    let first : 0 < length (numbers ∷ []) = omega arith in record {
+      there = here;
+      turn = (
+        λ c d stands_as may asks. taken_before stands (only old numbers) (only new numbers) t h 0 c d asks.request are more before first
+            (turn.turn.0 c d (stands_grown old.parts new.parts s c grown.parts stands_as.0, stands_as.1) may asks),
+        way_before stands (only old numbers) (only new numbers) s t 0 are more before first turn.turn.1,
+      );
+      led = λ led. led_to_before stands allows (only old numbers) (only new numbers) 0 are more before first (turn.led (led_as_kept stands allows old new s t grown led));
+    }
+turn_to_before stands allows old new s t h None few there grown before turn =
+    λ c d stands_as may asks. turn c d (stands_grown old.parts new.parts s c grown.parts stands_as.0, stands_as.1) may asks
+
+pub turn_there : {T : Type 0} (stands : T → List Event → Type 0) (allows : List Event → ℕ → Type 0) (r : ReachedView T) (s : ProgramState) (t : T) (h : ℕ) (next : Option StateNumbers) →
+    IsTurnTo stands allows r s t h next → IfSome next (AreThere r)
+turn_there stands allows r s t h (Some numbers) turn = turn.there
+turn_there stands allows r s t h None turn = tt
+
+-- parts that stay
+pub were_before_same : (old new : PartsView) → new ≡ old → WereBefore old new
+were_before_same old new same s k lists stands = subst (λ (parts : PartsView). StandsFor parts s k) same stands
+
+-- the state alone has a number among others
+pub met_numbered : {T : Type 0} (r : ReachedView T) (numbers : StateNumbers) (n : ℕ) (s : ProgramState) (t : T) → slice_get r.states n ≡ Some numbers → IsMet (only r numbers) 0 s t →
+    IsMet r n s t
+met_numbered r numbers n s t here met = record {
+  numbers = met.numbers;
+  found = here ∙ met.found;
+  memory = met.memory;
+  standing = met.standing;
+  count = met.count;
+  each = met.each;
+}
+
+covers_numbered : {T : Type 0} (stands : T → List Event → Type 0) (r : ReachedView T) (numbers : StateNumbers) (n : ℕ) (d : Config) → slice_get r.states n ≡ Some numbers →
+    CoversAt stands (only r numbers) 0 d → CoversAt stands r n d
+covers_numbered stands r numbers n d here at = (
+  record {
+    state = at.0.state;
+    standing = at.0.standing;
+    number = n;
+    met = met_numbered r numbers n at.0.state at.0.standing here (subst (λ (k : ℕ). IsMet (only r numbers) k at.0.state at.0.standing) at.1 at.0.met);
+    stands_as = at.0.stands_as;
+  },
+  refl,
+)
+
+taken_numbered : {T : Type 0} (stands : T → List Event → Type 0) (r : ReachedView T) (numbers : StateNumbers) (t : T) (h n : ℕ) (c d : Config) (request : Request) →
+    slice_get r.states n ≡ Some numbers → IsTaken stands (only r numbers) t h 0 c d request → IsTaken stands r t h n c d request
+unfolding covers_numbered
+taken_numbered stands r numbers t h n c d request here taken = record {
+  fits = taken.fits;
+  steps = taken.steps;
+  end = taken.end;
+  goes = taken.goes;
+  none = taken.none;
+  at = covers_numbered stands r numbers n taken.end here taken.at;
+  kept = taken.kept;
+}
+
+way_numbered : {T : Type 0} (stands : T → List Event → Type 0) (r : ReachedView T) (numbers : StateNumbers) (s : ProgramState) (t : T) (n : ℕ) → slice_get r.states n ≡ Some numbers →
+    IsWayTo stands (only r numbers) s t 0 → IsWayTo stands r s t n
+way_numbered stands r numbers s t n here way = record {
+  there = slice_get_within r.states n numbers here;
+  leads = λ c stands_as.
+      let on : LeadsTo stands (only r numbers) c 0 = way.leads c stands_as in
+      record { steps = on.steps; end = on.end; runs = on.runs; covers = covers_numbered stands r numbers n on.end here on.covers };
+}
+
+pub turn_taken : {T : Type 0} (stands : T → List Event → Type 0) (allows : List Event → ℕ → Type 0) (r : ReachedView T) (s : ProgramState) (t : T) (h : ℕ) (next : Option StateNumbers)
+    (number : Option ℕ) → HaveNumber r.states next number → IsTurnTo stands allows r s t h next → IsTurn stands allows r s t h number
+turn_taken stands allows r s t h (Some numbers) (Some n) here turn = (
+  λ c d stands_as may asks. taken_numbered stands r numbers t h n c d asks.request here (turn.turn.0 c d stands_as may asks),
+  way_numbered stands r numbers s t n here turn.turn.1,
+)
+turn_taken stands allows r s t h (Some numbers) None here turn = absurd here
+turn_taken stands allows r s t h None (Some n) here turn = absurd here
+turn_taken stands allows r s t h None None here turn = turn
+
+-- the state that is met so is led to
+pub led_taken : {T : Type 0} (stands : T → List Event → Type 0) (allows : List Event → ℕ → Type 0) (old new : ReachedView T) (s : ProgramState) (t : T) (h : ℕ)
+    (next : Option StateNumbers) → HaveGrown old new → MayHaveOneMore old.states new.states next → IsLedAs stands allows old s t → IsTurnTo stands allows old s t h next →
+    AreLed stands allows old → AreLed stands allows new
+led_taken stands allows old new s t h (Some numbers) grown more led turn are n there =
+    let here : (x : StateNumbers) × (slice_get new.states n ≡ Some x) = there_is new.states n there in
+    elim (got_appended old.states new.states numbers more n here.0 here.1) [
+      | inl before ↦ led_to_kept stands allows old new n grown (are n (slice_get_within old.states n here.0 before))
+      | inr same ↦
+          let at : slice_get new.states n ≡ Some numbers = here.1 ∙ ap (λ (x : StateNumbers). Some x) same in
+          let to : IsLedTo stands allows (only new numbers) 0 =
+          led_to_kept stands allows (only old numbers) (only new numbers) 0 (only_grown old new numbers grown) (turn.led led) in record {
+            state = to.state;
+            standing = to.standing;
+            met = met_numbered new numbers n to.state to.standing at to.met;
+            led_as = record { end = to.led_as.end; led = to.led_as.led; stands_as = to.led_as.stands_as };
+          }
+    ]
+led_taken stands allows old new s t h None grown same led turn are = led_grown stands allows old new grown same are
+
+-- turns of the first harts
+pub no_turns_to : {T : Type 0} (stands : T → List Event → Type 0) (allows : List Event → ℕ → Type 0) (r : ReachedView T) (s : ProgramState) (t : T)
+    (turns : List (Option StateNumbers)) → AreTurnsTo stands allows r s t 0 turns
+no_turns_to stands allows r s t turns h few = absurd (omega (arith, few))
+
+pub turns_to_kept : {T : Type 0} (stands : T → List Event → Type 0) (allows : List Event → ℕ → Type 0) (old new : ReachedView T) (s : ProgramState) (t : T) (count : ℕ)
+    (turns : List (Option StateNumbers)) → HasLists old.parts s → HaveGrown old new → WereBefore old.parts new.parts → AreTurnsTo stands allows old s t count turns →
+    AreTurnsTo stands allows new s t count turns
+turns_to_kept stands allows old new s t count turns lists grown before are h few =
+    turn_to_kept stands allows old new s t h (slice_index_or turns h None) lists grown before (are h few)
+
+pub turns_to_more : {T : Type 0} (stands : T → List Event → Type 0) (allows : List Event → ℕ → Type 0) (r : ReachedView T) (s : ProgramState) (t : T) (count : ℕ)
+    (next : Option StateNumbers) (turns : List (Option StateNumbers)) → count < length turns → IsTurnTo stands allows r s t count next →
+    AreTurnsTo stands allows r s t count turns → AreTurnsTo stands allows r s t (count + 1) (slice_set turns count next)
+turns_to_more stands allows r s t count next turns there turn are h few = elim (cases_eq h count) [
+  | inl same ↦
+      let here : slice_index_or (slice_set turns count next) h None ≡ next =
+      ap (λ (k : ℕ). slice_index_or (slice_set turns count next) k None) same ∙ read_set turns count next None there in
+      subst (λ (one : Option StateNumbers). IsTurnTo stands allows r s t h one) (sym here)
+      (subst (λ (k : ℕ). IsTurnTo stands allows r s t k next) (sym same) turn)
+  | inr other ↦ subst (λ (one : Option StateNumbers). IsTurnTo stands allows r s t h one) (sym (read_else turns count h next None other))
+      (are h (omega (arith, few, other)))
+]
+
+-- turns from the state of a number
+pub turns_from_kept : {T : Type 0} (stands : T → List Event → Type 0) (allows : List Event → ℕ → Type 0) (ends : Status → Type 0) (old new : ReachedView T) (n : ℕ)
+    (turns : List (Option StateNumbers)) → AreNumbered old → HaveGrown old new → WereBefore old.parts new.parts → AreTurnsFrom stands allows ends old n turns →
+    AreTurnsFrom stands allows ends new n turns
+turns_from_kept stands allows ends old new n turns are grown before from =
+    let lists : HasLists old.parts from.state = lists_of_met old n from.state from.standing from.met (are.each n from.met.numbers from.met.found) in record {
+      state = from.state;
+      standing = from.standing;
+      met = met_kept old new n from.state from.standing grown from.met;
+      well = from.well;
+      turns_are = λ h few. turn_to_kept stands allows old new from.state from.standing h (slice_index_or turns h None) lists grown before
+          (from.turns_are h (omega (arith, few, grown.harts)));
+    }
+
+pub turns_from_before : {T : Type 0} (stands : T → List Event → Type 0) (allows : List Event → ℕ → Type 0) (ends : Status → Type 0) (old new : ReachedView T) (n : ℕ)
+    (turns : List (Option StateNumbers)) → AreNumbered old → HaveGrown old new → WereBefore old.parts new.parts → n < length old.states →
+    ((h : ℕ) (numbers : StateNumbers) → slice_index_or turns h None ≡ Some numbers → AreThere old numbers) → AreTurnsFrom stands allows ends new n turns →
+    AreTurnsFrom stands allows ends old n turns
+turns_from_before stands allows ends old new n turns are grown before there parts from = record {
+  state = from.state;
+  standing = from.standing;
+  met = met_before old new n from.state from.standing are grown there from.met;
+  well = from.well;
+  turns_are = λ h few. turn_to_before stands allows old new from.state from.standing h (slice_index_or turns h None) are.few
+      (λ numbers is. parts h numbers is) grown before (from.turns_are h (omega (arith, few, grown.harts)));
+}
+
+-- turns that are known of states behind one another
+pub known_none : {T : Type 0} (stands : T → List Event → Type 0) (allows : List Event → ℕ → Type 0) (ends : Status → Type 0) (r : ReachedView T) (first : ℕ)
+    (known : List (Option (List (Option StateNumbers)))) → known ≡ [] → AreKnownFrom stands allows ends r first known
+known_none stands allows ends r first known none n turns found =
+    let here : slice_get [] n ≡ Some (Some turns) = rw none at found in absurd cc
+
+pub known_kept : {T : Type 0} (stands : T → List Event → Type 0) (allows : List Event → ℕ → Type 0) (ends : Status → Type 0) (old new : ReachedView T) (first : ℕ)
+    (known : List (Option (List (Option StateNumbers)))) → AreNumbered old → HaveGrown old new → WereBefore old.parts new.parts → AreKnownFrom stands allows ends old first known →
+    AreKnownFrom stands allows ends new first known
+known_kept stands allows ends old new first known are grown before is n turns found = turns_from_kept stands allows ends old new (first + n) turns are grown before (is n turns found)
+
+pub known_of : {T : Type 0} (stands : T → List Event → Type 0) (allows : List Event → ℕ → Type 0) (ends : Status → Type 0) (r : ReachedView T) (first number : ℕ)
+    (known : List (Option (List (Option StateNumbers)))) (found : Option (List (Option StateNumbers))) → AreKnownFrom stands allows ends r first known →
+    IfSome found (λ turns. (n : ℕ) × (first + n ≡ number) × (slice_get known n ≡ Some (Some turns))) → IfSome found (AreTurnsFrom stands allows ends r number)
+known_of stands allows ends r first number known (Some turns) is at =
+    subst (λ (k : ℕ). AreTurnsFrom stands allows ends r k turns) at.1 (is at.0 turns at.2)
+known_of stands allows ends r first number known None is at = tt
