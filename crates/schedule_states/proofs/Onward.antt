@@ -1,6 +1,6 @@
 -- The turns of harts, before the states to which they lead have numbers.
 use Rattle.std.proofs.Common.{◌≡◌, ◌⊎◌, inl, inr, ℕ, zero, suc, ◌+◌, ◌<◌, ◌≤◌, List, [], ◌∷◌, ◌++◌, Option, Some, None, length, slice_get, slice_index_or, slice_set, refl, sym, ap, ◌∙◌, subst, arith}
-use Rattle.std.specs.Prelude.{IfSome}
+use Rattle.std.specs.Prelude.{IfSome, IsSome}
 use Rattle.std.proofs.lemmas.Bool.{cases_eq}
 use Rattle.std.proofs.lemmas.Option.{same_Some, slice_get_within}
 use Rattle.bus.proofs.Places.{read_else, read_set, there_is}
@@ -8,18 +8,18 @@ use Rattle.hart.specs.declared.need.Request.{Request}
 use Rattle.hart.specs.declared.state.Status.{Status}
 use Rattle.machine.specs.Run.{Config, started}
 use Rattle.store_trace.specs.declared.event.Event.{Event}
-use Rattle.schedule_states.proofs.Closing.{met_before, taken_kept}
+use Rattle.schedule_states.proofs.Closing.{met_before, same_standing, taken_kept}
 use Rattle.schedule_states.proofs.Covering.{stands_grown}
 use Rattle.schedule_states.proofs.Happening.{led_as_kept, led_grown, led_to_kept}
 use Rattle.schedule_states.proofs.Looking.{got_appended}
 use Rattle.schedule_states.proofs.Numbering.{lists_of_met, met_kept, numbers_there}
-use Rattle.schedule_states.proofs.Turning.{way_kept}
+use Rattle.schedule_states.proofs.Turning.{same_stands, way_kept}
 use Rattle.schedule_states.specs.Behind.{GoesOwnBy, IsFit}
 use Rattle.schedule_states.specs.Claims.{claim_in}
 use Rattle.schedule_states.specs.Covering.{CoversAt, IsMet, IsTaken, ReachedView, StandsAs}
 use Rattle.schedule_states.specs.Ending.{IsTurn, IsWayTo, LeadsTo}
 use Rattle.schedule_states.specs.Happening.{AreLed, IsLed, IsLedAs, IsLedTo}
-use Rattle.schedule_states.specs.Onward.{AreKnownFrom, AreTurnsFrom, AreTurnsTo, HaveNumber, IsTurnTo, LeadsToParts, MayHaveOneMore, only}
+use Rattle.schedule_states.specs.Onward.{AreAllKnown, AreKnownFrom, AreTurnsFrom, AreTurnsTo, HasParts, HasPlace, IsKnownTurn, IsPlaced, IsTurnOfParts, IsTurnTo, LeadsToParts, MayHaveOneMore, only}
 use Rattle.schedule_states.specs.Reaching.{AreNumbered, AreThere, HaveGrown, WereBefore}
 use Rattle.schedule_states.specs.StartLines.{StartView}
 use Rattle.schedule_states.specs.States.{PartsView, StandsFor}
@@ -27,6 +27,8 @@ use Rattle.schedule_states.specs.Successors.{HasLists}
 use Rattle.schedule_states.specs.declared.claims.ClaimedLine.{ClaimedLine}
 use Rattle.schedule_states.specs.declared.program_state.ProgramState.{ProgramState}
 use Rattle.schedule_states.specs.declared.program_state.StateNumbers.{StateNumbers}
+use Rattle.schedule_states.specs.declared.reached.Turn.{Turn}
+use Rattle.schedule_states.specs.declared.reached.Turn.TheVariants as to
 
 -- one state alone
 pub only_grown : {T : Type 0} (old new : ReachedView T) (numbers : StateNumbers) → HaveGrown old new → HaveGrown (only old numbers) (only new numbers)
@@ -144,11 +146,6 @@ turn_to_before stands allows old new s t h (Some numbers) few there grown before
 turn_to_before stands allows old new s t h None few there grown before turn =
     λ c d stands_as may asks. turn c d (stands_grown old.parts new.parts s c grown.parts stands_as.0, stands_as.1) may asks
 
-pub turn_there : {T : Type 0} (stands : T → List Event → Type 0) (allows : List Event → ℕ → Type 0) (r : ReachedView T) (s : ProgramState) (t : T) (h : ℕ) (next : Option StateNumbers) →
-    IsTurnTo stands allows r s t h next → IfSome next (AreThere r)
-turn_there stands allows r s t h (Some numbers) turn = turn.there
-turn_there stands allows r s t h None turn = tt
-
 -- parts that stay
 pub were_before_same : (old new : PartsView) → new ≡ old → WereBefore old new
 were_before_same old new same s k lists stands = subst (λ (parts : PartsView). StandsFor parts s k) same stands
@@ -200,63 +197,166 @@ way_numbered stands r numbers s t n here way = record {
       record { steps = on.steps; end = on.end; runs = on.runs; covers = covers_numbered stands r numbers n on.end here on.covers };
 }
 
-pub turn_taken : {T : Type 0} (stands : T → List Event → Type 0) (allows : List Event → ℕ → Type 0) (r : ReachedView T) (s : ProgramState) (t : T) (h : ℕ) (next : Option StateNumbers)
-    (number : Option ℕ) → HaveNumber r.states next number → IsTurnTo stands allows r s t h next → IsTurn stands allows r s t h number
-turn_taken stands allows r s t h (Some numbers) (Some n) here turn = (
+-- to a state that has a number
+turn_numbered : {T : Type 0} (stands : T → List Event → Type 0) (allows : List Event → ℕ → Type 0) (r : ReachedView T) (s : ProgramState) (t : T) (h : ℕ) (numbers : StateNumbers) (n : ℕ) →
+    slice_get r.states n ≡ Some numbers → IsTurnTo stands allows r s t h (Some numbers) → IsTurn stands allows r s t h (Some n)
+turn_numbered stands allows r s t h numbers n here turn = (
   λ c d stands_as may asks. taken_numbered stands r numbers t h n c d asks.request here (turn.turn.0 c d stands_as may asks),
   way_numbered stands r numbers s t n here turn.turn.1,
 )
-turn_taken stands allows r s t h (Some numbers) None here turn = absurd here
-turn_taken stands allows r s t h None (Some n) here turn = absurd here
-turn_taken stands allows r s t h None None here turn = turn
+
+-- turns that are known, as the parts grow
+pub known_turn_kept : {T : Type 0} (stands : T → List Event → Type 0) (allows : List Event → ℕ → Type 0) (old new : ReachedView T) (s : ProgramState) (t : T) (h : ℕ) (turn : Turn) →
+    HasLists old.parts s → HaveGrown old new → WereBefore old.parts new.parts → IsKnownTurn stands allows old s t h turn → IsKnownTurn stands allows new s t h turn
+known_turn_kept stands allows old new s t h to.Stays lists grown before is = turn_to_kept stands allows old new s t h None lists grown before is
+known_turn_kept stands allows old new s t h (to.Parts numbers) lists grown before is = turn_to_kept stands allows old new s t h (Some numbers) lists grown before is
+known_turn_kept stands allows old new s t h (to.Reached n) lists grown before is = (
+  λ c d stands_as may asks. taken_kept stands old new t h n c d asks.request grown (is.0 c d (before s c lists stands_as.0, stands_as.1) may asks),
+  way_kept stands old new s t n lists grown before is.1,
+)
+
+-- one that a look has found is known where its parts were there before
+pub known_of_placed : {T : Type 0} (stands : T → List Event → Type 0) (allows : List Event → ℕ → Type 0) (old new : ReachedView T) (s : ProgramState) (t : T) (h : ℕ)
+    (next : Option StateNumbers) (turn : Turn) → AreNumbered old → HaveGrown old new → WereBefore old.parts new.parts → IsPlaced old next turn →
+    IsTurnTo stands allows new s t h next → IsKnownTurn stands allows old s t h turn
+known_of_placed stands allows old new s t h (Some numbers) (to.Parts same) are grown before placed is =
+    subst (λ (one : StateNumbers). IsTurnTo stands allows old s t h (Some one)) (sym placed.0)
+    (turn_to_before stands allows old new s t h (Some numbers) are.few (λ one e. subst (λ (x : StateNumbers). AreThere old x) (same_Some numbers one e) placed.1) grown before is)
+known_of_placed stands allows old new s t h (Some numbers) (to.Reached n) are grown before placed is =
+    turn_numbered stands allows old s t h numbers n placed
+    (turn_to_before stands allows old new s t h (Some numbers) are.few (λ one e. subst (λ (x : StateNumbers). AreThere old x) (same_Some numbers one e) (are.each n numbers placed))
+    grown before is)
+known_of_placed stands allows old new s t h (Some numbers) to.Stays are grown before placed is = absurd placed
+known_of_placed stands allows old new s t h None turn are grown before placed is =
+    subst (λ (x : Turn). IsKnownTurn stands allows old s t h x) (sym placed)
+    (turn_to_before stands allows old new s t h None are.few (λ one e. absurd cc) grown before is)
+
+-- so it is where it leads to parts
+pub known_of_parts : {T : Type 0} (stands : T → List Event → Type 0) (allows : List Event → ℕ → Type 0) (r : ReachedView T) (s : ProgramState) (t : T) (h : ℕ)
+    (next : Option StateNumbers) (turn : Turn) → IsTurnOfParts next turn → IsTurnTo stands allows r s t h next → IsKnownTurn stands allows r s t h turn
+known_of_parts stands allows r s t h (Some numbers) turn same is = subst (λ (x : Turn). IsKnownTurn stands allows r s t h x) (sym same) is
+known_of_parts stands allows r s t h None turn same is = subst (λ (x : Turn). IsKnownTurn stands allows r s t h x) (sym same) is
+
+-- its parts are there
+pub turn_has_parts : {T : Type 0} (stands : T → List Event → Type 0) (allows : List Event → ℕ → Type 0) (r : ReachedView T) (s : ProgramState) (t : T) (h : ℕ) (turn : Turn) →
+    IsKnownTurn stands allows r s t h turn → HasParts r turn
+turn_has_parts stands allows r s t h to.Stays is = tt
+turn_has_parts stands allows r s t h (to.Reached n) is = tt
+turn_has_parts stands allows r s t h (to.Parts numbers) is = is.there
+
+-- it leads to the state that has its number
+pub turn_taken : {T : Type 0} (stands : T → List Event → Type 0) (allows : List Event → ℕ → Type 0) (r : ReachedView T) (s : ProgramState) (t : T) (h : ℕ) (turn : Turn)
+    (number : Option ℕ) → HasPlace r.states turn number → IsKnownTurn stands allows r s t h turn → IsTurn stands allows r s t h number
+turn_taken stands allows r s t h (to.Parts numbers) (Some n) here is = turn_numbered stands allows r s t h numbers n here is
+turn_taken stands allows r s t h (to.Parts numbers) None here is = absurd here
+turn_taken stands allows r s t h (to.Reached m) number here is = subst (λ (x : Option ℕ). IsTurn stands allows r s t h x) (sym here) is
+turn_taken stands allows r s t h to.Stays number here is = subst (λ (x : Option ℕ). IsTurn stands allows r s t h x) (sym here) is
 
 -- the state that is met so is led to
 pub led_taken : {T : Type 0} (stands : T → List Event → Type 0) (allows : List Event → ℕ → Type 0) (old new : ReachedView T) (s : ProgramState) (t : T) (h : ℕ)
-    (next : Option StateNumbers) → HaveGrown old new → MayHaveOneMore old.states new.states next → IsLedAs stands allows old s t → IsTurnTo stands allows old s t h next →
+    (turn : Turn) → HaveGrown old new → MayHaveOneMore old.states new.states turn → IsLedAs stands allows old s t → IsKnownTurn stands allows old s t h turn →
     AreLed stands allows old → AreLed stands allows new
-led_taken stands allows old new s t h (Some numbers) grown more led turn are n there =
+led_taken stands allows old new s t h (to.Parts numbers) grown more led is are n there =
     let here : (x : StateNumbers) × (slice_get new.states n ≡ Some x) = there_is new.states n there in
     elim (got_appended old.states new.states numbers more n here.0 here.1) [
       | inl before ↦ led_to_kept stands allows old new n grown (are n (slice_get_within old.states n here.0 before))
       | inr same ↦
           let at : slice_get new.states n ≡ Some numbers = here.1 ∙ ap (λ (x : StateNumbers). Some x) same in
           let to : IsLedTo stands allows (only new numbers) 0 =
-          led_to_kept stands allows (only old numbers) (only new numbers) 0 (only_grown old new numbers grown) (turn.led led) in record {
+          led_to_kept stands allows (only old numbers) (only new numbers) 0 (only_grown old new numbers grown) (is.led led) in record {
             state = to.state;
             standing = to.standing;
             met = met_numbered new numbers n to.state to.standing at to.met;
             led_as = record { end = to.led_as.end; led = to.led_as.led; stands_as = to.led_as.stands_as };
           }
     ]
-led_taken stands allows old new s t h None grown same led turn are = led_grown stands allows old new grown same are
+led_taken stands allows old new s t h (to.Reached m) grown same led is are = led_grown stands allows old new grown same are
+led_taken stands allows old new s t h to.Stays grown same led is are = led_grown stands allows old new grown same are
+
+-- by the number of a state, whatever its parts are called
+known_of_same : {T : Type 0} (stands : T → List Event → Type 0) (allows : List Event → ℕ → Type 0) (r : ReachedView T) (n : ℕ) (s u : ProgramState) (t v : T) (h : ℕ) (turn : Turn) →
+    IsMet r n s t → IsMet r n u v → IsKnownTurn stands allows r s t h turn → IsKnownTurn stands allows r u v h turn
+known_of_same stands allows r n s u t v h to.Stays met other is = λ c d stands_as may asks. is c d (same_stands stands r n s u t v c met other stands_as) may asks
+known_of_same stands allows r n s u t v h (to.Reached m) met other is = (
+  λ c d stands_as may asks. subst (λ (x : _). IsTaken stands r x h m c d asks.request) (sym (same_standing r n s u t v met other))
+      (is.0 c d (same_stands stands r n s u t v c met other stands_as) may asks),
+  record { there = is.1.there; leads = λ c stands_as. is.1.leads c (same_stands stands r n s u t v c met other stands_as) },
+)
+known_of_same stands allows r n s u t v h (to.Parts numbers) met other is = record {
+  there = is.there;
+  turn = (
+    λ c d stands_as may asks. subst (λ (x : _). IsTaken stands (only r numbers) x h 0 c d asks.request) (sym (same_standing r n s u t v met other))
+        (is.turn.0 c d (same_stands stands r n s u t v c met other stands_as) may asks),
+    record { there = is.turn.1.there; leads = λ c stands_as. is.turn.1.leads c (same_stands stands r n s u t v c met other stands_as) },
+  );
+  led = λ led. is.led (record { end = led.end; led = led.led; stands_as = same_stands stands r n s u t v led.end met other led.stands_as });
+}
 
 -- turns of the first harts
 pub no_turns_to : {T : Type 0} (stands : T → List Event → Type 0) (allows : List Event → ℕ → Type 0) (r : ReachedView T) (s : ProgramState) (t : T)
-    (turns : List (Option StateNumbers)) → AreTurnsTo stands allows r s t 0 turns
+    (turns : List (Option Turn)) → AreTurnsTo stands allows r s t 0 turns
 no_turns_to stands allows r s t turns h few = absurd (omega (arith, few))
 
+some_kept : {T : Type 0} (stands : T → List Event → Type 0) (allows : List Event → ℕ → Type 0) (old new : ReachedView T) (s : ProgramState) (t : T) (h : ℕ) (turn : Option Turn) →
+    HasLists old.parts s → HaveGrown old new → WereBefore old.parts new.parts → IfSome turn (IsKnownTurn stands allows old s t h) → IfSome turn (IsKnownTurn stands allows new s t h)
+some_kept stands allows old new s t h (Some turn) lists grown before is = known_turn_kept stands allows old new s t h turn lists grown before is
+some_kept stands allows old new s t h None lists grown before is = tt
+
 pub turns_to_kept : {T : Type 0} (stands : T → List Event → Type 0) (allows : List Event → ℕ → Type 0) (old new : ReachedView T) (s : ProgramState) (t : T) (count : ℕ)
-    (turns : List (Option StateNumbers)) → HasLists old.parts s → HaveGrown old new → WereBefore old.parts new.parts → AreTurnsTo stands allows old s t count turns →
+    (turns : List (Option Turn)) → HasLists old.parts s → HaveGrown old new → WereBefore old.parts new.parts → AreTurnsTo stands allows old s t count turns →
     AreTurnsTo stands allows new s t count turns
 turns_to_kept stands allows old new s t count turns lists grown before are h few =
-    turn_to_kept stands allows old new s t h (slice_index_or turns h None) lists grown before (are h few)
+    some_kept stands allows old new s t h (slice_index_or turns h None) lists grown before (are h few)
 
-pub turns_to_more : {T : Type 0} (stands : T → List Event → Type 0) (allows : List Event → ℕ → Type 0) (r : ReachedView T) (s : ProgramState) (t : T) (count : ℕ)
-    (next : Option StateNumbers) (turns : List (Option StateNumbers)) → count < length turns → IsTurnTo stands allows r s t count next →
-    AreTurnsTo stands allows r s t count turns → AreTurnsTo stands allows r s t (count + 1) (slice_set turns count next)
-turns_to_more stands allows r s t count next turns there turn are h few = elim (cases_eq h count) [
+-- the turn of one hart is found
+pub turns_to_set : {T : Type 0} (stands : T → List Event → Type 0) (allows : List Event → ℕ → Type 0) (r : ReachedView T) (s : ProgramState) (t : T) (count hart : ℕ)
+    (turn : Option Turn) (turns : List (Option Turn)) → hart < length turns → IfSome turn (IsKnownTurn stands allows r s t hart) →
+    AreTurnsTo stands allows r s t count turns → AreTurnsTo stands allows r s t count (slice_set turns hart turn)
+turns_to_set stands allows r s t count hart turn turns there is are h few = elim (cases_eq h hart) [
   | inl same ↦
-      let here : slice_index_or (slice_set turns count next) h None ≡ next =
-      ap (λ (k : ℕ). slice_index_or (slice_set turns count next) k None) same ∙ read_set turns count next None there in
-      subst (λ (one : Option StateNumbers). IsTurnTo stands allows r s t h one) (sym here)
-      (subst (λ (k : ℕ). IsTurnTo stands allows r s t k next) (sym same) turn)
-  | inr other ↦ subst (λ (one : Option StateNumbers). IsTurnTo stands allows r s t h one) (sym (read_else turns count h next None other))
+      let here : slice_index_or (slice_set turns hart turn) h None ≡ turn =
+      ap (λ (k : ℕ). slice_index_or (slice_set turns hart turn) k None) same ∙ read_set turns hart turn None there in
+      subst (λ (one : Option Turn). IfSome one (IsKnownTurn stands allows r s t h)) (sym here)
+      (subst (λ (k : ℕ). IfSome turn (IsKnownTurn stands allows r s t k)) (sym same) is)
+  | inr other ↦ subst (λ (one : Option Turn). IfSome one (IsKnownTurn stands allows r s t h)) (sym (read_else turns hart h turn None other)) (are h few)
+]
+
+-- so of one hart more
+pub turns_to_more : {T : Type 0} (stands : T → List Event → Type 0) (allows : List Event → ℕ → Type 0) (r : ReachedView T) (s : ProgramState) (t : T) (count : ℕ)
+    (turn : Option Turn) (turns : List (Option Turn)) → count < length turns → IfSome turn (IsKnownTurn stands allows r s t count) →
+    AreTurnsTo stands allows r s t count turns → AreTurnsTo stands allows r s t (count + 1) (slice_set turns count turn)
+turns_to_more stands allows r s t count turn turns there is are h few = elim (cases_eq h count) [
+  | inl same ↦
+      let here : slice_index_or (slice_set turns count turn) h None ≡ turn =
+      ap (λ (k : ℕ). slice_index_or (slice_set turns count turn) k None) same ∙ read_set turns count turn None there in
+      subst (λ (one : Option Turn). IfSome one (IsKnownTurn stands allows r s t h)) (sym here)
+      (subst (λ (k : ℕ). IfSome turn (IsKnownTurn stands allows r s t k)) (sym same) is)
+  | inr other ↦ subst (λ (one : Option Turn). IfSome one (IsKnownTurn stands allows r s t h)) (sym (read_else turns count h turn None other))
       (are h (omega (arith, few, other)))
+]
+
+-- the turns of the first harts are known
+pub none_all_known : (turns : List (Option Turn)) → AreAllKnown 0 turns
+none_all_known turns h few = absurd (omega (arith, few))
+
+pub all_known_next : (count : ℕ) (turns : List (Option Turn)) → IsSome (slice_index_or turns count None) → AreAllKnown count turns → AreAllKnown (count + 1) turns
+all_known_next count turns here are h few = elim (cases_eq h count) [
+  | inl same ↦ subst (λ (k : ℕ). IsSome (slice_index_or turns k None)) (sym same) here
+  | inr other ↦ are h (omega (arith, few, other))
+]
+
+pub all_known_set : (count : ℕ) (turn : Turn) (turns : List (Option Turn)) → count < length turns → AreAllKnown count turns → AreAllKnown (count + 1) (slice_set turns count (Some turn))
+all_known_set count turn turns there are h few = elim (cases_eq h count) [
+  | inl same ↦
+      let here : slice_index_or (slice_set turns count (Some turn)) h None ≡ Some turn =
+      ap (λ (k : ℕ). slice_index_or (slice_set turns count (Some turn)) k None) same ∙ read_set turns count (Some turn) None there in
+      subst (λ (one : Option Turn). IsSome one) (sym here) cc
+  | inr other ↦ subst (λ (one : Option Turn). IsSome one) (sym (read_else turns count h (Some turn) None other)) (are h (omega (arith, few, other)))
 ]
 
 -- turns from the state of a number
 pub turns_from_kept : {T : Type 0} (stands : T → List Event → Type 0) (allows : List Event → ℕ → Type 0) (ends : Status → Type 0) (old new : ReachedView T) (n : ℕ)
-    (turns : List (Option StateNumbers)) → AreNumbered old → HaveGrown old new → WereBefore old.parts new.parts → AreTurnsFrom stands allows ends old n turns →
+    (turns : List (Option Turn)) → AreNumbered old → HaveGrown old new → WereBefore old.parts new.parts → AreTurnsFrom stands allows ends old n turns →
     AreTurnsFrom stands allows ends new n turns
 turns_from_kept stands allows ends old new n turns are grown before from =
     let lists : HasLists old.parts from.state = lists_of_met old n from.state from.standing from.met (are.each n from.met.numbers from.met.found) in record {
@@ -264,37 +364,33 @@ turns_from_kept stands allows ends old new n turns are grown before from =
       standing = from.standing;
       met = met_kept old new n from.state from.standing grown from.met;
       well = from.well;
-      turns_are = λ h few. turn_to_kept stands allows old new from.state from.standing h (slice_index_or turns h None) lists grown before
+      turns_are = λ h few. some_kept stands allows old new from.state from.standing h (slice_index_or turns h None) lists grown before
           (from.turns_are h (omega (arith, few, grown.harts)));
     }
 
-pub turns_from_before : {T : Type 0} (stands : T → List Event → Type 0) (allows : List Event → ℕ → Type 0) (ends : Status → Type 0) (old new : ReachedView T) (n : ℕ)
-    (turns : List (Option StateNumbers)) → AreNumbered old → HaveGrown old new → WereBefore old.parts new.parts → n < length old.states →
-    ((h : ℕ) (numbers : StateNumbers) → slice_index_or turns h None ≡ Some numbers → AreThere old numbers) → AreTurnsFrom stands allows ends new n turns →
-    AreTurnsFrom stands allows ends old n turns
-turns_from_before stands allows ends old new n turns are grown before there parts from = record {
-  state = from.state;
-  standing = from.standing;
-  met = met_before old new n from.state from.standing are grown there from.met;
-  well = from.well;
-  turns_are = λ h few. turn_to_before stands allows old new from.state from.standing h (slice_index_or turns h None) are.few
-      (λ numbers is. parts h numbers is) grown before (from.turns_are h (omega (arith, few, grown.harts)));
-}
+some_of_same : {T : Type 0} (stands : T → List Event → Type 0) (allows : List Event → ℕ → Type 0) (r : ReachedView T) (n : ℕ) (s u : ProgramState) (t v : T) (h : ℕ)
+    (turn : Option Turn) → IsMet r n s t → IsMet r n u v → IfSome turn (IsKnownTurn stands allows r s t h) → IfSome turn (IsKnownTurn stands allows r u v h)
+some_of_same stands allows r n s u t v h (Some turn) met other is = known_of_same stands allows r n s u t v h turn met other is
+some_of_same stands allows r n s u t v h None met other is = tt
+
+pub turns_at_number : {T : Type 0} (stands : T → List Event → Type 0) (allows : List Event → ℕ → Type 0) (ends : Status → Type 0) (r : ReachedView T) (n : ℕ)
+    (turns : List (Option Turn)) (u : ProgramState) (v : T) → AreTurnsFrom stands allows ends r n turns → IsMet r n u v → AreTurnsTo stands allows r u v r.harts turns
+turns_at_number stands allows ends r n turns u v from other h few =
+    some_of_same stands allows r n from.state u from.standing v h (slice_index_or turns h None) from.met other (from.turns_are h few)
 
 -- turns that are known of states behind one another
 pub known_none : {T : Type 0} (stands : T → List Event → Type 0) (allows : List Event → ℕ → Type 0) (ends : Status → Type 0) (r : ReachedView T) (first : ℕ)
-    (known : List (Option (List (Option StateNumbers)))) → known ≡ [] → AreKnownFrom stands allows ends r first known
+    (known : List (Option (List (Option Turn)))) → known ≡ [] → AreKnownFrom stands allows ends r first known
 known_none stands allows ends r first known none n turns found =
     let here : slice_get [] n ≡ Some (Some turns) = rw none at found in absurd cc
 
 pub known_kept : {T : Type 0} (stands : T → List Event → Type 0) (allows : List Event → ℕ → Type 0) (ends : Status → Type 0) (old new : ReachedView T) (first : ℕ)
-    (known : List (Option (List (Option StateNumbers)))) → AreNumbered old → HaveGrown old new → WereBefore old.parts new.parts → AreKnownFrom stands allows ends old first known →
+    (known : List (Option (List (Option Turn)))) → AreNumbered old → HaveGrown old new → WereBefore old.parts new.parts → AreKnownFrom stands allows ends old first known →
     AreKnownFrom stands allows ends new first known
 known_kept stands allows ends old new first known are grown before is n turns found = turns_from_kept stands allows ends old new (first + n) turns are grown before (is n turns found)
 
 pub known_of : {T : Type 0} (stands : T → List Event → Type 0) (allows : List Event → ℕ → Type 0) (ends : Status → Type 0) (r : ReachedView T) (first number : ℕ)
-    (known : List (Option (List (Option StateNumbers)))) (found : Option (List (Option StateNumbers))) → AreKnownFrom stands allows ends r first known →
-    IfSome found (λ turns. (n : ℕ) × (first + n ≡ number) × (slice_get known n ≡ Some (Some turns))) → IfSome found (AreTurnsFrom stands allows ends r number)
-known_of stands allows ends r first number known (Some turns) is at =
+    (known : List (Option (List (Option Turn)))) (turns : List (Option Turn)) → AreKnownFrom stands allows ends r first known →
+    (n : ℕ) × (first + n ≡ number) × (slice_get known n ≡ Some (Some turns)) → AreTurnsFrom stands allows ends r number turns
+known_of stands allows ends r first number known turns is at =
     subst (λ (k : ℕ). AreTurnsFrom stands allows ends r k turns) at.1 (is at.0 turns at.2)
-known_of stands allows ends r first number known None is at = tt

@@ -94,7 +94,7 @@ pub closed_by_turns : {T : Type 0} (stands : T → List Event → Type 0) (allow
 closed_by_turns stands allows r s t count to turns h few c d stands_as may asks = (slice_index_or to h 0, turns.taken h few c d stands_as may asks)
 
 -- by the number of a state, whatever its parts are called
-same_stands : {T : Type 0} (stands : T → List Event → Type 0) (r : ReachedView T) (n : ℕ) (s u : ProgramState) (t v : T) (c : Config) → IsMet r n s t → IsMet r n u v →
+pub same_stands : {T : Type 0} (stands : T → List Event → Type 0) (r : ReachedView T) (n : ℕ) (s u : ProgramState) (t v : T) (c : Config) → IsMet r n s t → IsMet r n u v →
     StandsAs stands r.parts u v c → StandsAs stands r.parts s t c
 same_stands stands r n s u t v c met other stands_as = (
   stands_same r.parts u s c (same_harts r n u s v t other met) (same_memory r n u s v t other met) stands_as.0,

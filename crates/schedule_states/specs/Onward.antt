@@ -1,5 +1,5 @@
 -- The turns of harts, before the states to which they lead have numbers.
-use Rattle.std.specs.Prelude.{◌≡◌, ◌⊎◌, ◌++◌, ◌+◌, ◌∷◌, [], ◌<◌, ℕ, List, Option, Some, None, slice_get, slice_index_or}
+use Rattle.std.specs.Prelude.{◌≡◌, ◌⊎◌, ◌++◌, ◌+◌, ◌∷◌, [], ◌<◌, ℕ, List, Option, Some, None, IfSome, IsSome, slice_get, slice_index_or}
 use Rattle.hart.specs.declared.state.Status.{Status}
 use Rattle.store_trace.specs.declared.event.Event.{Event}
 use Rattle.schedule_states.specs.Covering.{IsMet, PartsEndWell, ReachedView}
@@ -8,6 +8,8 @@ use Rattle.schedule_states.specs.Happening.{IsLedAs, IsLedTo}
 use Rattle.schedule_states.specs.Reaching.{AreThere}
 use Rattle.schedule_states.specs.declared.program_state.ProgramState.{ProgramState}
 use Rattle.schedule_states.specs.declared.program_state.StateNumbers.{StateNumbers}
+use Rattle.schedule_states.specs.declared.reached.Turn.{Turn}
+use Rattle.schedule_states.specs.declared.reached.Turn.TheVariants as to
 
 -- the state with parts of these numbers, as if no other one was reached
 abbrev pub only : {T : Type 0} → ReachedView T → StateNumbers → ReachedView T
@@ -25,32 +27,61 @@ abbrev pub IsTurnTo : {T : Type 0} → (T → List Event → Type 0) → (List E
 IsTurnTo stands allows r s t h (Some numbers) = LeadsToParts stands allows r s t h numbers
 IsTurnTo stands allows r s t h None = IsTurn stands allows r s t h None
 
--- so of the turns of the first harts
-abbrev pub AreTurnsTo : {T : Type 0} → (T → List Event → Type 0) → (List Event → ℕ → Type 0) → ReachedView T → ProgramState → T → ℕ → List (Option StateNumbers) → Type 0
-AreTurnsTo stands allows r s t count turns = (h : ℕ) → h < count → IsTurnTo stands allows r s t h (slice_index_or turns h None)
+-- such a turn, or one that leads to a state of which the number is known
+abbrev pub IsKnownTurn : {T : Type 0} → (T → List Event → Type 0) → (List Event → ℕ → Type 0) → ReachedView T → ProgramState → T → ℕ → Turn → Type 0
+IsKnownTurn stands allows r s t h to.Stays = IsTurnTo stands allows r s t h None
+IsKnownTurn stands allows r s t h (to.Reached n) = IsTurn stands allows r s t h (Some n)
+IsKnownTurn stands allows r s t h (to.Parts numbers) = IsTurnTo stands allows r s t h (Some numbers)
+
+-- so of the turns of the first harts that are known
+abbrev pub AreTurnsTo : {T : Type 0} → (T → List Event → Type 0) → (List Event → ℕ → Type 0) → ReachedView T → ProgramState → T → ℕ → List (Option Turn) → Type 0
+AreTurnsTo stands allows r s t count turns = (h : ℕ) → h < count → IfSome (slice_index_or turns h None) (IsKnownTurn stands allows r s t h)
+
+-- those of the first harts are all known
+abbrev pub AreAllKnown : ℕ → List (Option Turn) → Type 0
+AreAllKnown count turns = (h : ℕ) → h < count → IsSome (slice_index_or turns h None)
 
 -- so of all harts from the state of number n, where each runs or has stopped as it may
 pub record AreTurnsFrom {T : Type 0} (stands : T → List Event → Type 0) (allows : List Event → ℕ → Type 0) (ends : Status → Type 0) (r : ReachedView T) (n : ℕ)
-    (turns : List (Option StateNumbers)) : Type 0 where
+    (turns : List (Option Turn)) : Type 0 where
   pub state : ProgramState
   pub standing : T
   pub met : IsMet r n state standing
   pub well : PartsEndWell ends state.harts.items
   pub turns_are : AreTurnsTo stands allows r state standing r.harts turns
 
--- so of each of the states from the first one on of which the turns are known
-abbrev pub AreKnownFrom : {T : Type 0} → (T → List Event → Type 0) → (List Event → ℕ → Type 0) → (Status → Type 0) → ReachedView T → ℕ → List (Option (List (Option StateNumbers))) → Type 0
-AreKnownFrom stands allows ends r first known = (n : ℕ) (turns : List (Option StateNumbers)) → slice_get known n ≡ Some (Some turns) →
+-- so of each of the states from the first one on of which turns are known
+abbrev pub AreKnownFrom : {T : Type 0} → (T → List Event → Type 0) → (List Event → ℕ → Type 0) → (Status → Type 0) → ReachedView T → ℕ → List (Option (List (Option Turn))) → Type 0
+AreKnownFrom stands allows ends r first known = (n : ℕ) (turns : List (Option Turn)) → slice_get known n ≡ Some (Some turns) →
     AreTurnsFrom stands allows ends r (first + n) turns
 
--- the state with parts of these numbers has the number n, if there is one
-abbrev pub HaveNumber : List StateNumbers → Option StateNumbers → Option ℕ → Type 0
-HaveNumber states (Some numbers) (Some n) = slice_get states n ≡ Some numbers
-HaveNumber states (Some numbers) None = ⊥
-HaveNumber states None (Some n) = ⊥
-HaveNumber states None None = Unit {0}
+-- the turn leads to the state with parts of these numbers, if there is one
+abbrev pub IsTurnOfParts : Option StateNumbers → Turn → Type 0
+IsTurnOfParts (Some numbers) turn = turn ≡ to.Parts numbers
+IsTurnOfParts None turn = turn ≡ to.Stays
 
--- the states are those of before, or that one more
-abbrev pub MayHaveOneMore : List StateNumbers → List StateNumbers → Option StateNumbers → Type 0
-MayHaveOneMore old new (Some numbers) = (new ≡ old) ⊎ (new ≡ old ++ numbers ∷ [])
-MayHaveOneMore old new None = new ≡ old
+-- so, where its parts are there; or to its number among those that were reached
+abbrev pub IsPlaced : {T : Type 0} → ReachedView T → Option StateNumbers → Turn → Type 0
+IsPlaced r (Some numbers) (to.Parts same) = (same ≡ numbers) × AreThere r numbers
+IsPlaced r (Some numbers) (to.Reached n) = slice_get r.states n ≡ Some numbers
+IsPlaced r (Some numbers) to.Stays = ⊥
+IsPlaced r None turn = turn ≡ to.Stays
+
+-- the parts to which a turn leads are there
+abbrev pub HasParts : {T : Type 0} → ReachedView T → Turn → Type 0
+HasParts r (to.Parts numbers) = AreThere r numbers
+HasParts r (to.Reached n) = Unit {0}
+HasParts r to.Stays = Unit {0}
+
+-- the state to which a turn leads has this number
+abbrev pub HasPlace : List StateNumbers → Turn → Option ℕ → Type 0
+HasPlace states (to.Parts numbers) (Some n) = slice_get states n ≡ Some numbers
+HasPlace states (to.Parts numbers) None = ⊥
+HasPlace states (to.Reached m) next = next ≡ Some m
+HasPlace states to.Stays next = next ≡ None
+
+-- the states are those of before, or the one more to which a turn leads
+abbrev pub MayHaveOneMore : List StateNumbers → List StateNumbers → Turn → Type 0
+MayHaveOneMore old new (to.Parts numbers) = (new ≡ old) ⊎ (new ≡ old ++ numbers ∷ [])
+MayHaveOneMore old new (to.Reached n) = new ≡ old
+MayHaveOneMore old new to.Stays = new ≡ old

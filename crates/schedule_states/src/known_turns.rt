@@ -43,11 +43,11 @@ impl KnownTurns {
     }
 
     /// What is known of the turns from the state of a number.
-    pub fn of(&self, number: u32) -> Option<Turns>
-        ensures { IfSome result (λ turns. (n : ℕ) × (self.now.first + n ≡ number) × (slice_get self.now.turns.items n ≡ Some (Some turns))) }
+    pub fn of(&self, number: u32) -> Option<&Turns>
+        ensures { IfSome result (λ turns. (n : ℕ) × (self.now.first + n ≡ number) × (slice_get self.now.turns.items n ≡ Some (Some turns.now))) }
     {
         let at = number.checked_sub(self.first)?;
-        *self.turns.get(at as usize)?
+        self.turns.get(at as usize)?.as_ref()
     }
 
     /// Has workers look at the states from this number on, unless they have looked at this one already, or few wait.

@@ -57,6 +57,14 @@ impl<'a, T: Eq + Hash + Drop> Numbers<'a, T> {
         self.values.set().as_slice()
     }
 
+    /// The number of a value, if it has one.
+    pub fn known(&self, value: &T) -> Option<u32>
+        ensures { IfSome result (λ number. HasNumber T.eq self.now number value.now) }
+    {
+        let number = number_in(self.values.set(), value)?;
+        u32::try_from(number).ok()
+    }
+
     /// The number of a value, which is a new one where it has none yet. Over 2^32 values count as out of memory.
     pub fn number_of(&mut self, value: T) -> Result<u32, AllocError>
         ensures kept { AreKept self.old self.new }

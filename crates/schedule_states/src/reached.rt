@@ -10,7 +10,7 @@ ghost use Rattle.schedule_states.specs.Happening.{AreLed, HasHappenedAt};
 ghost use Rattle.schedule_states.specs.Judging.{IsGoodMoment, StaysGood};
 ghost use Rattle.schedule_states.specs.Leads.{AreOfHarts};
 ghost use Rattle.schedule_states.specs.Media.{AreOnMedium};
-ghost use Rattle.schedule_states.specs.Onward.{AreTurnsFrom, AreTurnsTo, HaveNumber, IsTurnTo, MayHaveOneMore, only};
+ghost use Rattle.schedule_states.specs.Onward.{AreAllKnown, AreTurnsFrom, AreTurnsTo, HasParts, HasPlace, IsKnownTurn, IsPlaced, IsTurnOfParts, IsTurnTo, MayHaveOneMore, only};
 ghost use Rattle.schedule_states.specs.Reaching.{AreNumbered, AreNumbersBefore, AreNumbersOf, ArePartsOf, AreThere, HaveGrown, IsFirst, IsKeptOn, WereBefore};
 ghost use Rattle.schedule_states.specs.States.{AreLists};
 ghost use Rattle.schedule_states.specs.Successors.{HasLists};
@@ -56,8 +56,19 @@ impl<'a, J: StateJudge> Model for Reached<'a, J> {
     ghost invariant = { λ r. AreNumbered (record { parts = r.parts; hart_parts = r.hart_parts; standings = r.standings; states = r.states; harts = r.leads }) };
 }
 
-/// To what the turns of harts 0 to 7 lead from a state: the numbers of the parts of the next one; None where the hart makes no request.
-pub type Turns = [Option<StateNumbers>; 8];
+/// To what the turn of a hart leads from a state.
+#[derive(Clone, Copy)]
+pub enum Turn {
+    /// The hart makes no request, or may make none.
+    Stays,
+    /// To a state that was reached, by its number.
+    Reached(u32),
+    /// To the state with parts of these numbers.
+    Parts(StateNumbers),
+}
+
+/// The turns of harts 0 to 7 from a state; None where one isn't known.
+pub type Turns = [Option<Turn>; 8];
 
 /// Why a search goes no further from a state.
 #[derive(Clone, Copy, Debug, PartialEq, Eq)]
@@ -222,11 +233,11 @@ impl<'a, J: StateJudge> Reached<'a, J> {
         alloc: Global,
         judge: &J,
         number: u32,
-        known: Option<Turns>,
+        known: Option<&Turns>,
     ) -> Result<Result<[u32; 8], Stop>, AllocError>
         requires there { number < length self.old.states }
         requires claims { MayClaim (J.allows judge.now) self.old.parts.claims }
-        requires known { IfSome known (AreTurnsFrom (J.stands judge.now) (J.allows judge.now) (J.ends judge.now) self.old number) }
+        requires known { IfSome known (λ turns. AreTurnsFrom (J.stands judge.now) (J.allows judge.now) (J.ends judge.now) self.old number turns.now) }
         ensures closed { IfOk result (λ gone. IfOk gone (λ to. IsClosedAt (J.stands judge.now) (J.allows judge.now) (J.ends judge.now) self.new number)) }
         ensures turns { IfOk result (λ gone. IfOk gone (AreTurnsAt (J.stands judge.now) (J.allows judge.now) self.new number)) }
         ensures led { IfOk result (λ gone. IfOk gone (λ to. AreLed (J.stands judge.now) (J.allows judge.now) self.old →
@@ -244,42 +255,72 @@ impl<'a, J: StateJudge> Reached<'a, J> {
         }
     }
 
-    /// To what the turns of the harts lead from a state: as it is known, or else by a look.
+    /// To what the turns of the harts lead from a state: as far as it is known, and else by a look.
     fn turns_from(
         &mut self,
         alloc: Global,
         judge: &J,
         number: u32,
-        known: Option<Turns>,
+        known: Option<&Turns>,
     ) -> Result<Result<Turns, Stop>, AllocError>
         requires there { number < length self.old.states }
         requires claims { MayClaim (J.allows judge.now) self.old.parts.claims }
-        requires known { IfSome known (AreTurnsFrom (J.stands judge.now) (J.allows judge.now) (J.ends judge.now) self.old number) }
-        ensures turns { IfOk result (λ looked. IfOk looked (AreTurnsFrom (J.stands judge.now) (J.allows judge.now) (J.ends judge.now) self.new number)) }
+        requires known { IfSome known (λ turns. AreTurnsFrom (J.stands judge.now) (J.allows judge.now) (J.ends judge.now) self.old number turns.now) }
+        ensures turns { IfOk result (λ looked. IfOk looked (λ turns.
+            AreTurnsFrom (J.stands judge.now) (J.allows judge.now) (J.ends judge.now) self.new number turns × AreAllKnown self.new.harts turns)) }
         ensures grown { HaveGrown self.old self.new }
         ensures before { WereBefore self.old.parts self.new.parts }
         ensures states { self.new.states ≡ self.old.states }
     {
         match known {
-            Some(turns) => Ok(Ok(turns)),
-            None => self.look(alloc, judge, number),
+            Some(turns) if are_all_known(turns, self.leads.harts()) => Ok(Ok(*turns)),
+            Some(turns) => self.look(alloc, judge, number, turns),
+            None => self.look(alloc, judge, number, &[None; 8]),
         }
     }
 
-    /// What is known of the turns of the harts at a state, where each leads to a state of parts that have numbers already. Many may look at once.
+    /// What is known of the turns of the harts at a state: of each that leads to a state of parts that have numbers already. None where a hart has
+    /// stopped as it may not, or memory is refused. Many may look at once.
     pub fn known_turns(&self, alloc: Global, judge: &J, number: u32) -> Option<Turns>
         requires there { number < length self.now.states }
         requires claims { MayClaim (J.allows judge.now) self.now.parts.claims }
         ensures { IfSome result (AreTurnsFrom (J.stands judge.now) (J.allows judge.now) (J.ends judge.now) self.now number) }
     {
-        let mut lent = self.lent(alloc);
-        let Ok(Ok(turns)) = lent.look(alloc, judge, number) else {
+        self.are_numbered();
+        let numbers = self.numbers(number);
+        let state = self.state(alloc, &numbers).ok()?;
+        if ended_badly(judge, &state.harts).is_some() {
             return None;
-        };
-        if self.have_parts(&turns) {
-            Some(turns)
-        } else {
-            None
+        }
+        let mut turns = [None; 8];
+        for hart in 0..self.leads.harts() {
+            turns[hart as usize] = self.known_turn(alloc, judge, &state, &numbers, hart);
+        }
+        Some(turns)
+    }
+
+    /// To what the turn of a hart leads from a state, whose parts have these numbers, where the parts of the next one have numbers, too.
+    fn known_turn(
+        &self,
+        alloc: Global,
+        judge: &J,
+        state: &ProgramState,
+        numbers: &StateNumbers,
+        hart: u32,
+    ) -> Option<Turn>
+        requires there { hart < self.now.harts }
+        requires parts { ArePartsOf self.now numbers.now self.now.harts state.now.harts.items }
+        requires lists { HasLists self.now.parts state.now }
+        requires standing { numbers.now.standing < length self.now.standings }
+        requires claims { MayClaim (J.allows judge.now) self.now.parts.claims }
+        ensures { IfSome result (λ turn. (t : J.Standing) → slice_get self.now.standings numbers.now.standing ≡ Some t →
+            IsKnownTurn (J.stands judge.now) (J.allows judge.now) self.now state.now t hart turn) }
+    {
+        self.are_numbered();
+        let mut lent = self.lent(alloc);
+        match lent.turn(alloc, judge, state, numbers, hart) {
+            Ok(Ok(next)) => self.placed(next),
+            _ => None,
         }
     }
 
@@ -296,26 +337,29 @@ impl<'a, J: StateJudge> Reached<'a, J> {
         }
     }
 
-    /// Whether the turns lead to states of parts that are there.
-    fn have_parts(&self, turns: &Turns) -> bool
-        ensures { result ≡ true → (h : ℕ) → h < length turns.now → IfSome (slice_index_or turns.now h None) (AreThere self.now) }
+    /// A turn that leads to the state with parts of these numbers, if it leads to one; None where they aren't those of parts that are there.
+    fn placed(&self, next: Option<StateNumbers>) -> Option<Turn>
+        ensures { IfSome result (IsPlaced self.now next) }
     {
-        for hart in 0..turns.len() {
-            if !self.has_parts(&turns[hart]) {
-                return false;
-            }
+        let Some(numbers) = next else {
+            return Some(Turn::Stays);
+        };
+        if let Some(number) = self.reached_by(&numbers) {
+            return Some(Turn::Reached(number));
         }
-        true
+        if self.is_there(&numbers) {
+            Some(Turn::Parts(numbers))
+        } else {
+            None
+        }
     }
 
-    /// Whether a turn leads to a state of parts that are there, if it leads to one.
-    fn has_parts(&self, next: &Option<StateNumbers>) -> bool
-        ensures { result ≡ true → IfSome next.now (AreThere self.now) }
+    /// The number of the state with parts of these numbers, if it was reached.
+    fn reached_by(&self, numbers: &StateNumbers) -> Option<u32>
+        ensures { IfSome result (λ number. slice_get self.now.states number ≡ Some numbers.now) }
     {
-        match next {
-            Some(numbers) => self.is_there(numbers),
-            None => true,
-        }
+        equal_numbers_are_same();
+        self.states.known(numbers)
     }
 
     /// Whether the numbers are those of parts that are there.
@@ -346,16 +390,21 @@ impl<'a, J: StateJudge> Reached<'a, J> {
         }
     }
 
-    /// To what the turns of the harts lead from a state, whose harts run or have stopped as they may, up to one at which the search stops.
+    /// To what the turns of the harts lead from a state, whose harts run or have stopped as they may, up to one at which the search stops. Those
+    /// that are known aren't looked for.
     fn look(
         &mut self,
         alloc: Global,
         judge: &J,
         number: u32,
+        known: &Turns,
     ) -> Result<Result<Turns, Stop>, AllocError>
         requires there { number < length self.old.states }
         requires claims { MayClaim (J.allows judge.now) self.old.parts.claims }
-        ensures turns { IfOk result (λ looked. IfOk looked (AreTurnsFrom (J.stands judge.now) (J.allows judge.now) (J.ends judge.now) self.new number)) }
+        requires known { (s : AProgramState) (t : J.Standing) → IsMet self.old number s t →
+            AreTurnsTo (J.stands judge.now) (J.allows judge.now) self.old s t self.old.harts known.now }
+        ensures turns { IfOk result (λ looked. IfOk looked (λ turns.
+            AreTurnsFrom (J.stands judge.now) (J.allows judge.now) (J.ends judge.now) self.new number turns × AreAllKnown self.new.harts turns)) }
         ensures grown { HaveGrown self.old self.new }
         ensures before { WereBefore self.old.parts self.new.parts }
         ensures states { self.new.states ≡ self.old.states }
@@ -367,7 +416,11 @@ impl<'a, J: StateJudge> Reached<'a, J> {
         if let Some(hart) = ended_badly(judge, &state.harts) {
             return Ok(Err(Stop::Ended(hart)));
         }
-        self.turns(alloc, judge, &state, &numbers)
+        let from = From {
+            state: &state,
+            numbers: &numbers,
+        };
+        self.turns(alloc, judge, from, known)
     }
 
     /// Each state has the numbers of parts that are there.
@@ -383,26 +436,28 @@ impl<'a, J: StateJudge> Reached<'a, J> {
         &mut self,
         alloc: Global,
         judge: &J,
-        state: &ProgramState,
-        numbers: &StateNumbers,
+        from: From<'_>,
+        known: &Turns,
     ) -> Result<Result<Turns, Stop>, AllocError>
-        requires parts { ArePartsOf self.old numbers.now self.old.harts state.now.harts.items }
-        requires lists { HasLists self.old.parts state.now }
-        requires standing { numbers.now.standing < length self.old.standings }
+        requires parts { ArePartsOf self.old from.numbers.now self.old.harts from.state.now.harts.items × HasLists self.old.parts from.state.now }
+        requires standing { from.numbers.now.standing < length self.old.standings }
         requires claims { MayClaim (J.allows judge.now) self.old.parts.claims }
-        ensures turns { IfOk result (λ looked. IfOk looked (λ turns. (t : J.Standing) → slice_get self.old.standings numbers.now.standing ≡ Some t →
-            AreTurnsTo (J.stands judge.now) (J.allows judge.now) self.new state.now t self.new.harts turns)) }
-        ensures grown { HaveGrown self.old self.new }
-        ensures before { WereBefore self.old.parts self.new.parts }
-        ensures states { self.new.states ≡ self.old.states }
+        requires known { (t : J.Standing) → slice_get self.old.standings from.numbers.now.standing ≡ Some t →
+            AreTurnsTo (J.stands judge.now) (J.allows judge.now) self.old from.state.now t self.old.harts known.now }
+        ensures turns { IfOk result (λ looked. IfOk looked (λ turns. AreAllKnown self.new.harts turns
+            × ((t : J.Standing) → slice_get self.old.standings from.entry.numbers.now.standing ≡ Some t →
+            AreTurnsTo (J.stands judge.now) (J.allows judge.now) self.new from.entry.state.now t self.new.harts turns))) }
+        ensures grown { HaveGrown self.old self.new × WereBefore self.old.parts self.new.parts × (self.new.states ≡ self.old.states) }
     {
         self.are_numbered();
-        let mut turns = [None; 8];
+        let mut turns = *known;
         let harts = self.leads.harts();
         for hart in 0..harts {
-            match self.turn(alloc, judge, state, numbers, hart)? {
-                Ok(next) => turns[hart as usize] = next,
-                Err(stop) => return Ok(Err(stop)),
+            if turns[hart as usize].is_none() {
+                match self.turn(alloc, judge, from.state, from.numbers, hart)? {
+                    Ok(next) => turns[hart as usize] = Some(turn_to(next)),
+                    Err(stop) => return Ok(Err(stop)),
+                }
             }
         }
         Ok(Ok(turns))
@@ -411,34 +466,36 @@ impl<'a, J: StateJudge> Reached<'a, J> {
     /// The states to which the turns of the harts lead from the state of a number: that state itself for a hart that makes no request.
     fn take_all(&mut self, judge: &J, number: u32, turns: &Turns) -> Result<[u32; 8], AllocError>
         requires turns { AreTurnsFrom (J.stands judge.now) (J.allows judge.now) (J.ends judge.now) self.old number turns.now }
+        requires all { AreAllKnown self.old.harts turns.now }
         ensures closed { IfOk result (λ to. IsClosedAt (J.stands judge.now) (J.allows judge.now) (J.ends judge.now) self.new number) }
         ensures turns { IfOk result (AreTurnsAt (J.stands judge.now) (J.allows judge.now) self.new number) }
         ensures led { IfOk result (λ to. AreLed (J.stands judge.now) (J.allows judge.now) self.old → AreLed (J.stands judge.now) (J.allows judge.now) self.new) }
-        ensures grown { HaveGrown self.old self.new }
-        ensures parts { self.new.parts ≡ self.old.parts }
+        ensures grown { HaveGrown self.old self.new × (self.new.parts ≡ self.old.parts) }
     {
         self.are_numbered();
         let mut to = [number; 8];
         let harts = self.leads.harts();
         for hart in 0..harts {
-            let next = self.take(turns[hart as usize])?;
+            let turn = turns[hart as usize].unwrap();
+            let next = self.take(turn)?;
             to[hart as usize] = next.unwrap_or(number);
             self.note(Lead { from: number, hart })?;
         }
         Ok(to)
     }
 
-    /// The number of the state with parts of these numbers, if there is one. It is a new one where the state wasn't reached yet.
-    fn take(&mut self, next: Option<StateNumbers>) -> Result<Option<u32>, AllocError>
-        requires there { IfSome next (AreThere self.old) }
-        ensures number { IfOk result (HaveNumber self.new.states next) }
-        ensures more { MayHaveOneMore self.old.states self.new.states next }
+    /// The number of the state to which a turn leads, if it leads to one. It is a new one where the state wasn't reached yet.
+    fn take(&mut self, turn: Turn) -> Result<Option<u32>, AllocError>
+        requires there { HasParts self.old turn }
+        ensures number { IfOk result (HasPlace self.new.states turn) }
+        ensures more { MayHaveOneMore self.old.states self.new.states turn }
         ensures grown { HaveGrown self.old self.new }
         ensures parts { self.new.parts ≡ self.old.parts }
     {
-        match next {
-            Some(numbers) => Ok(Some(self.number_of(numbers)?)),
-            None => Ok(None),
+        match turn {
+            Turn::Stays => Ok(None),
+            Turn::Reached(number) => Ok(Some(number)),
+            Turn::Parts(numbers) => Ok(Some(self.number_of(numbers)?)),
         }
     }
 
@@ -544,6 +601,36 @@ impl<'a, J: StateJudge> Reached<'a, J> {
         equal_numbers_are_same();
         self.states.number_of(numbers)
     }
+}
+
+/// A state, and the numbers of its parts.
+#[derive(Clone, Copy)]
+struct From<'s> {
+    state: &'s ProgramState,
+    numbers: &'s StateNumbers,
+}
+
+/// A turn that leads to the state with parts of these numbers, if it leads to one.
+fn turn_to(next: Option<StateNumbers>) -> Turn
+    ensures { IsTurnOfParts next result }
+{
+    match next {
+        Some(numbers) => Turn::Parts(numbers),
+        None => Turn::Stays,
+    }
+}
+
+/// Whether the turns of the first harts are known.
+fn are_all_known(turns: &Turns, harts: u32) -> bool
+    requires { harts ≤ 8 }
+    ensures { result ≡ true → AreAllKnown harts turns.now }
+{
+    for hart in 0..harts {
+        if turns[hart as usize].is_none() {
+            return false;
+        }
+    }
+    true
 }
 
 /// Why the search goes no further from a state by what a judge says of it.

@@ -60,7 +60,7 @@ returns-clause-start g c told =
             c.in_ok-number_of.ensures.number (c.in_ok-numbers.ensures.met first.0 first.1);
         stands_as = (
           subst (λ (p : PartsView). StandsFor p c.in-Ok.start
-          (started c.args.self.now.parts.table.start.program c.args.self.now.parts.table.start.medium c.args.self.now.harts)) (sym parts) stands,
+              (started c.args.self.now.parts.table.start.program c.args.self.now.parts.table.start.medium c.args.self.now.harts)) (sym parts) stands,
           first.2,
         );
       },

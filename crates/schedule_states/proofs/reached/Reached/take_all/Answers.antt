@@ -4,11 +4,11 @@ use Rattle.std.proofs.lemmas.Option.{slice_get_within}
 use Rattle.schedule_states.proofs.Closing.{closed_at, grown_twice}
 use Rattle.schedule_states.proofs.Happening.{led_as_met}
 use Rattle.schedule_states.proofs.Numbering.{lists_kept, lists_of_met, met_kept}
-use Rattle.schedule_states.proofs.Onward.{led_taken, turn_taken, turn_there, turn_to_kept, were_before_same}
+use Rattle.schedule_states.proofs.Onward.{known_turn_kept, led_taken, turn_has_parts, turn_taken, were_before_same}
 use Rattle.schedule_states.proofs.Turning.{closed_by_turns, no_turns, turns_at, turns_kept, turns_more}
 use Rattle.schedule_states.specs.Covering.{IsMet}
 use Rattle.schedule_states.specs.Ending.{AreTurns}
-use Rattle.schedule_states.specs.Onward.{AreTurnsFrom, IsTurnTo}
+use Rattle.schedule_states.specs.Onward.{AreTurnsFrom, IsKnownTurn}
 use Rattle.schedule_states.specs.Reaching.{HaveGrown, WereBefore}
 use Rattle.schedule_states.specs.Successors.{HasLists}
 use Rattle.schedule_states.proofs.reached.Reached.take_all.Goals as goal
@@ -39,8 +39,8 @@ take-requires g c =
     let few : c.loop-hart.hart < c.args.self.now.harts = omega (arith, c.loop-hart.within, c.loop-hart.invariant.harts, c.loop-hart.invariant.grown.harts) in
     let there : c.loop-hart.hart < length c.args.turns.now = search rules in
     let is : c.index-turns-hart.result ≡ slice_index_or c.args.turns.now c.loop-hart.hart None = c.index-turns-hart.is ∙ get_or_default c.args.turns.now c.loop-hart.hart _ None there in
-    rw is (turn_there (g.J.StateJudge.stands c.args.judge.now) (g.J.StateJudge.allows c.args.judge.now) c.loop-hart.self from.state from.standing c.loop-hart.hart _
-    (turn_to_kept (g.J.StateJudge.stands c.args.judge.now) (g.J.StateJudge.allows c.args.judge.now) c.args.self.now c.loop-hart.self from.state from.standing c.loop-hart.hart _
+    rw is (turn_has_parts (g.J.StateJudge.stands c.args.judge.now) (g.J.StateJudge.allows c.args.judge.now) c.loop-hart.self from.state from.standing c.loop-hart.hart _
+    (known_turn_kept (g.J.StateJudge.stands c.args.judge.now) (g.J.StateJudge.allows c.args.judge.now) c.args.self.now c.loop-hart.self from.state from.standing c.loop-hart.hart _
     lists c.loop-hart.invariant.grown before (from.turns_are c.loop-hart.hart few)))
 
 pub loop-hart-preserved : goal.loop-hart-preserved
@@ -56,8 +56,8 @@ loop-hart-preserved g c =
     HasLists c.args.self.now.parts from.state = λ from. lists_of_met c.args.self.now c.args.number from.state from.standing from.met
     (c.are_numbered.ensures.each c.args.number from.met.numbers from.met.found) in
     let turn : (from : AreTurnsFrom (g.J.StateJudge.stands c.args.judge.now) (g.J.StateJudge.allows c.args.judge.now) (g.J.StateJudge.ends c.args.judge.now) c.args.self.now c.args.number c.args.turns.now) →
-    IsTurnTo (g.J.StateJudge.stands c.args.judge.now) (g.J.StateJudge.allows c.args.judge.now) c.loop-hart.self from.state from.standing c.loop-hart.hart c.index-turns-hart.result = λ from.
-    rw is (turn_to_kept (g.J.StateJudge.stands c.args.judge.now) (g.J.StateJudge.allows c.args.judge.now) c.args.self.now c.loop-hart.self from.state from.standing c.loop-hart.hart _
+    IsKnownTurn (g.J.StateJudge.stands c.args.judge.now) (g.J.StateJudge.allows c.args.judge.now) c.loop-hart.self from.state from.standing c.loop-hart.hart c.index-turns-hart.result = λ from.
+    rw is (known_turn_kept (g.J.StateJudge.stands c.args.judge.now) (g.J.StateJudge.allows c.args.judge.now) c.args.self.now c.loop-hart.self from.state from.standing c.loop-hart.hart _
     (lists from) c.loop-hart.invariant.grown before (from.turns_are c.loop-hart.hart few)) in
     rw c.note.ensures (record {
       grown = grown;
@@ -70,7 +70,7 @@ loop-hart-preserved g c =
           c.in_ok-next.next c.loop-hart.to room met
           (turn_taken (g.J.StateJudge.stands c.args.judge.now) (g.J.StateJudge.allows c.args.judge.now) c.take.new.self from.state from.standing c.loop-hart.hart c.index-turns-hart.result c.in_ok-next.next
           c.in_ok-next.ensures.number
-          (turn_to_kept (g.J.StateJudge.stands c.args.judge.now) (g.J.StateJudge.allows c.args.judge.now) c.loop-hart.self c.take.new.self from.state from.standing c.loop-hart.hart c.index-turns-hart.result
+          (known_turn_kept (g.J.StateJudge.stands c.args.judge.now) (g.J.StateJudge.allows c.args.judge.now) c.loop-hart.self c.take.new.self from.state from.standing c.loop-hart.hart c.index-turns-hart.result
           here c.take.ensures.grown after (turn from)))
           (turns_kept (g.J.StateJudge.stands c.args.judge.now) (g.J.StateJudge.allows c.args.judge.now) c.loop-hart.self c.take.new.self from.state from.standing c.loop-hart.hart c.loop-hart.to
           here c.take.ensures.grown after (c.loop-hart.invariant.taken from)));
