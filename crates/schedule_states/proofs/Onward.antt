@@ -302,6 +302,17 @@ some_kept : {T : Type 0} (stands : T → List Event → Type 0) (allows : List E
 some_kept stands allows old new s t h (Some turn) lists grown before is = known_turn_kept stands allows old new s t h turn lists grown before is
 some_kept stands allows old new s t h None lists grown before is = tt
 
+-- so whatever is kept under this number
+pub some_as_kept : {T : Type 0} (stands : T → List Event → Type 0) (allows : List Event → ℕ → Type 0) (old new : ReachedView T) (s : ProgramState) (standing : ℕ) (h : ℕ)
+    (turn : Option Turn) → standing < length old.standings → HasLists old.parts s → HaveGrown old new → WereBefore old.parts new.parts →
+    ((t : T) → slice_get old.standings standing ≡ Some t → IfSome turn (IsKnownTurn stands allows old s t h)) →
+    IfSome turn (λ one. (t : T) → slice_get new.standings standing ≡ Some t → IsKnownTurn stands allows new s t h one)
+some_as_kept {T} stands allows old new s standing h (Some turn) there lists grown before is = λ t kept.
+    let was : (x : T) × (slice_get old.standings standing ≡ Some x) = there_is old.standings standing there in
+    let same : was.0 ≡ t = same_Some was.0 t (sym (grown.standings standing was.0 was.1) ∙ kept) in
+    known_turn_kept stands allows old new s t h turn lists grown before (is t (was.1 ∙ ap (λ (x : T). Some x) same))
+some_as_kept stands allows old new s standing h None there lists grown before is = tt
+
 pub turns_to_kept : {T : Type 0} (stands : T → List Event → Type 0) (allows : List Event → ℕ → Type 0) (old new : ReachedView T) (s : ProgramState) (t : T) (count : ℕ)
     (turns : List (Option Turn)) → HasLists old.parts s → HaveGrown old new → WereBefore old.parts new.parts → AreTurnsTo stands allows old s t count turns →
     AreTurnsTo stands allows new s t count turns

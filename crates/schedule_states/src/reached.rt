@@ -450,17 +450,42 @@ impl<'a, J: StateJudge> Reached<'a, J> {
         ensures grown { HaveGrown self.old self.new × WereBefore self.old.parts self.new.parts × (self.new.states ≡ self.old.states) }
     {
         self.are_numbered();
-        let mut turns = *known;
+        let mut turns = [None; 8];
         let harts = self.leads.harts();
         for hart in 0..harts {
-            if turns[hart as usize].is_none() {
-                match self.turn(alloc, judge, from.state, from.numbers, hart)? {
-                    Ok(next) => turns[hart as usize] = Some(turn_to(next)),
-                    Err(stop) => return Ok(Err(stop)),
-                }
+            match self.turn_or(alloc, judge, from, known[hart as usize], hart)? {
+                Ok(turn) => turns[hart as usize] = Some(turn),
+                Err(stop) => return Ok(Err(stop)),
             }
         }
         Ok(Ok(turns))
+    }
+
+    /// To what the turn of a hart leads from a state, if it isn't known.
+    fn turn_or(
+        &mut self,
+        alloc: Global,
+        judge: &J,
+        from: From<'_>,
+        known: Option<Turn>,
+        hart: u32,
+    ) -> Result<Result<Turn, Stop>, AllocError>
+        requires there { (hart < self.old.harts) × (from.numbers.now.standing < length self.old.standings) }
+        requires parts { ArePartsOf self.old from.numbers.now self.old.harts from.state.now.harts.items × HasLists self.old.parts from.state.now }
+        requires claims { MayClaim (J.allows judge.now) self.old.parts.claims }
+        requires known { IfSome known (λ turn. (t : J.Standing) → slice_get self.old.standings from.numbers.now.standing ≡ Some t →
+            IsKnownTurn (J.stands judge.now) (J.allows judge.now) self.old from.state.now t hart turn) }
+        ensures turn { IfOk result (λ looked. IfOk looked (λ turn. (t : J.Standing) → slice_get self.old.standings from.entry.numbers.now.standing ≡ Some t →
+            IsKnownTurn (J.stands judge.now) (J.allows judge.now) self.new from.entry.state.now t hart turn)) }
+        ensures grown { HaveGrown self.old self.new × WereBefore self.old.parts self.new.parts × (self.new.states ≡ self.old.states) }
+    {
+        if let Some(turn) = known {
+            return Ok(Ok(turn));
+        }
+        match self.turn(alloc, judge, from.state, from.numbers, hart)? {
+            Ok(next) => Ok(Ok(turn_to(next))),
+            Err(stop) => Ok(Err(stop)),
+        }
     }
 
     /// The states to which the turns of the harts lead from the state of a number: that state itself for a hart that makes no request.

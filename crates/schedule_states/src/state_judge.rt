@@ -35,7 +35,7 @@ pub trait StateJudge {
     type Standing: Eq + Hash + Drop + Send + Sync;
 
     /// What images are judged in, one state after the other, and what is noted of them.
-    type Workspace: Drop;
+    type Workspace: Drop + Send;
 
     /// This is kept after these events, whose marks are right.
     ghost stands: { Self → Self.Standing → List AnEvent → Type 0 };

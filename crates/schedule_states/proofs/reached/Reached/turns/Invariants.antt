@@ -10,7 +10,7 @@ invariant-loop-hart g l = record {
   before : WereBefore l.initial.self.parts l.self.parts;
   lists : HasLists l.self.parts l.from.state.now;
   turns : (t : _) → slice_get l.initial.self.standings l.from.numbers.now.standing ≡ Some t →
-      AreTurnsTo (g.J.StateJudge.stands l.judge) (g.J.StateJudge.allows l.judge) l.self l.from.state.now t l.self.harts l.turns;
+      AreTurnsTo (g.J.StateJudge.stands l.judge) (g.J.StateJudge.allows l.judge) l.self l.from.state.now t l.hart l.turns;
   all : AreAllKnown l.hart l.turns;
   harts : l.harts ≡ l.self.harts;
   states : l.self.states ≡ l.initial.self.states;
