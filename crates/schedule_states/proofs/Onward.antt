@@ -25,6 +25,7 @@ use Rattle.schedule_states.specs.StartLines.{StartView}
 use Rattle.schedule_states.specs.States.{PartsView, StandsFor}
 use Rattle.schedule_states.specs.Successors.{HasLists}
 use Rattle.schedule_states.specs.declared.claims.ClaimedLine.{ClaimedLine}
+use Rattle.schedule_states.specs.declared.program_state.HartPart.{HartPart}
 use Rattle.schedule_states.specs.declared.program_state.ProgramState.{ProgramState}
 use Rattle.schedule_states.specs.declared.program_state.StateNumbers.{StateNumbers}
 use Rattle.schedule_states.specs.declared.reached.Turn.{Turn}
@@ -109,6 +110,16 @@ led_to_before stands allows old new n are grown before there is =
       met = met;
       led_as = led_as_before stands allows old new is.state is.standing lists grown before is.led_as;
     }
+
+-- the parts of the first harts are there
+pub parts_there_next : {T : Type 0} (r : ReachedView T) (numbers : List ℕ) (count : ℕ) →
+    (part : HartPart) × (slice_get r.hart_parts (slice_index_or numbers count 0) ≡ Some part) × (part.text < length r.parts.lists) →
+    ((h : ℕ) → h < count → (part : HartPart) × (slice_get r.hart_parts (slice_index_or numbers h 0) ≡ Some part) × (part.text < length r.parts.lists)) →
+    (h : ℕ) → h < count + 1 → (part : HartPart) × (slice_get r.hart_parts (slice_index_or numbers h 0) ≡ Some part) × (part.text < length r.parts.lists)
+parts_there_next r numbers count here are h few = elim (cases_eq h count) [
+  | inl same ↦ subst (λ (k : ℕ). (part : HartPart) × (slice_get r.hart_parts (slice_index_or numbers k 0) ≡ Some part) × (part.text < length r.parts.lists)) (sym same) here
+  | inr other ↦ are h (omega (arith, few, other))
+]
 
 -- turns, as the parts grow
 pub turn_to_kept : {T : Type 0} (stands : T → List Event → Type 0) (allows : List Event → ℕ → Type 0) (old new : ReachedView T) (s : ProgramState) (t : T) (h : ℕ)
@@ -270,8 +281,8 @@ led_taken stands allows old new s t h (to.Parts numbers) grown more led is are n
             led_as = record { end = to.led_as.end; led = to.led_as.led; stands_as = to.led_as.stands_as };
           }
     ]
-led_taken stands allows old new s t h (to.Reached m) grown same led is are = led_grown stands allows old new grown same are
-led_taken stands allows old new s t h to.Stays grown same led is are = led_grown stands allows old new grown same are
+led_taken stands allows old new s t h (to.Reached m) grown same led is are n there = led_grown stands allows old new grown same are n there
+led_taken stands allows old new s t h to.Stays grown same led is are n there = led_grown stands allows old new grown same are n there
 
 -- by the number of a state, whatever its parts are called
 known_of_same : {T : Type 0} (stands : T → List Event → Type 0) (allows : List Event → ℕ → Type 0) (r : ReachedView T) (n : ℕ) (s u : ProgramState) (t v : T) (h : ℕ) (turn : Turn) →
@@ -292,11 +303,16 @@ known_of_same stands allows r n s u t v h (to.Parts numbers) met other is = reco
   led = λ led. is.led (record { end = led.end; led = led.led; stands_as = same_stands stands r n s u t v led.end met other led.stands_as });
 }
 
--- turns of the first harts
-pub no_turns_to : {T : Type 0} (stands : T → List Event → Type 0) (allows : List Event → ℕ → Type 0) (r : ReachedView T) (s : ProgramState) (t : T)
-    (turns : List (Option Turn)) → AreTurnsTo stands allows r s t 0 turns
-no_turns_to stands allows r s t turns h few = absurd (omega (arith, few))
+pub some_then : {A : Type 0} (P Q : A → Type 0) (found : Option A) → ((x : A) → P x → Q x) → IfSome found P → IfSome found Q
+some_then P Q (Some x) then is = then x is
+some_then P Q None then is = tt
 
+-- a turn that is known whatever is kept, where this is
+pub some_at : {T : Type 0} (kept : T → Type 0) (is : T → Turn → Type 0) (turn : Option Turn) (t : T) → kept t → IfSome turn (λ one. (x : T) → kept x → is x one) → IfSome turn (is t)
+some_at kept is (Some one) t here known = known t here
+some_at kept is None t here known = tt
+
+-- turns of the first harts
 some_kept : {T : Type 0} (stands : T → List Event → Type 0) (allows : List Event → ℕ → Type 0) (old new : ReachedView T) (s : ProgramState) (t : T) (h : ℕ) (turn : Option Turn) →
     HasLists old.parts s → HaveGrown old new → WereBefore old.parts new.parts → IfSome turn (IsKnownTurn stands allows old s t h) → IfSome turn (IsKnownTurn stands allows new s t h)
 some_kept stands allows old new s t h (Some turn) lists grown before is = known_turn_kept stands allows old new s t h turn lists grown before is
@@ -319,20 +335,7 @@ pub turns_to_kept : {T : Type 0} (stands : T → List Event → Type 0) (allows 
 turns_to_kept stands allows old new s t count turns lists grown before are h few =
     some_kept stands allows old new s t h (slice_index_or turns h None) lists grown before (are h few)
 
--- the turn of one hart is found
-pub turns_to_set : {T : Type 0} (stands : T → List Event → Type 0) (allows : List Event → ℕ → Type 0) (r : ReachedView T) (s : ProgramState) (t : T) (count hart : ℕ)
-    (turn : Option Turn) (turns : List (Option Turn)) → hart < length turns → IfSome turn (IsKnownTurn stands allows r s t hart) →
-    AreTurnsTo stands allows r s t count turns → AreTurnsTo stands allows r s t count (slice_set turns hart turn)
-turns_to_set stands allows r s t count hart turn turns there is are h few = elim (cases_eq h hart) [
-  | inl same ↦
-      let here : slice_index_or (slice_set turns hart turn) h None ≡ turn =
-      ap (λ (k : ℕ). slice_index_or (slice_set turns hart turn) k None) same ∙ read_set turns hart turn None there in
-      subst (λ (one : Option Turn). IfSome one (IsKnownTurn stands allows r s t h)) (sym here)
-      (subst (λ (k : ℕ). IfSome turn (IsKnownTurn stands allows r s t k)) (sym same) is)
-  | inr other ↦ subst (λ (one : Option Turn). IfSome one (IsKnownTurn stands allows r s t h)) (sym (read_else turns hart h turn None other)) (are h few)
-]
-
--- so of one hart more
+-- with the turn of one hart more
 pub turns_to_more : {T : Type 0} (stands : T → List Event → Type 0) (allows : List Event → ℕ → Type 0) (r : ReachedView T) (s : ProgramState) (t : T) (count : ℕ)
     (turn : Option Turn) (turns : List (Option Turn)) → count < length turns → IfSome turn (IsKnownTurn stands allows r s t count) →
     AreTurnsTo stands allows r s t count turns → AreTurnsTo stands allows r s t (count + 1) (slice_set turns count turn)
@@ -347,9 +350,6 @@ turns_to_more stands allows r s t count turn turns there is are h few = elim (ca
 ]
 
 -- the turns of the first harts are known
-pub none_all_known : (turns : List (Option Turn)) → AreAllKnown 0 turns
-none_all_known turns h few = absurd (omega (arith, few))
-
 pub all_known_next : (count : ℕ) (turns : List (Option Turn)) → IsSome (slice_index_or turns count None) → AreAllKnown count turns → AreAllKnown (count + 1) turns
 all_known_next count turns here are h few = elim (cases_eq h count) [
   | inl same ↦ subst (λ (k : ℕ). IsSome (slice_index_or turns k None)) (sym same) here

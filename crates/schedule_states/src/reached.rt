@@ -288,12 +288,15 @@ impl<'a, J: StateJudge> Reached<'a, J> {
     {
         self.are_numbered();
         let numbers = self.numbers(number);
-        let state = self.state(alloc, &numbers).ok()?;
-        if ended_badly(judge, &state.harts).is_some() {
+        let Ok(state) = self.state(alloc, &numbers) else {
+            return None;
+        };
+        if let Some(_hart) = ended_badly(judge, &state.harts) {
             return None;
         }
         let mut turns = [None; 8];
-        for hart in 0..self.leads.harts() {
+        let harts = self.leads.harts();
+        for hart in 0..harts {
             turns[hart as usize] = self.known_turn(alloc, judge, &state, &numbers, hart);
         }
         Some(turns)

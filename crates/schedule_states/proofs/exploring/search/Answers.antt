@@ -7,7 +7,7 @@ use Rattle.schedule_states.proofs.Covered.{ends_either, good_either, may_claim, 
 use Rattle.schedule_states.proofs.Happening.{happening}
 use Rattle.schedule_states.proofs.Judging.{below_noted, good_next, leads_found, moments_kept, nowhere_found, nowhere_more, told_found, told_more}
 use Rattle.schedule_states.proofs.Looking.{within_kept}
-use Rattle.schedule_states.proofs.Onward.{known_kept, known_none, known_of}
+use Rattle.schedule_states.proofs.Onward.{known_kept, known_none, known_of, some_then}
 use Rattle.schedule_states.proofs.Turning.{turns_next}
 use Rattle.schedule_states.specs.Covering.{IsClosed, IsClosedAt}
 use Rattle.schedule_states.specs.Ending.{AreTurnsBelow}
@@ -50,7 +50,7 @@ returns-then-number-met-clause-good g c =
     good_either (g.J.StateJudge.stands c.args.judge.now) (g.J.StateJudge.allows c.args.judge.now)
     (g.J.StateJudge.good c.args.judge.now c.loop-number.workspace) (g.J.StateJudge.ends c.args.judge.now) c.loop-number.reached
     c.args.reached.now.parts.table.start.program c.args.reached.now.parts.table.start.medium c.args.reached.now.harts
-    (λ t es event plain. g.met.J.StateJudge.unmarked c.args.judge.now t es event plain)
+    (λ t es event plain. (g.met.J.StateJudge g.world.𝓛 g.world.𝓜 g.world.𝓡 ((λ s x. x), (λ x. x), (λ x. x), λ x. x)).unmarked c.args.judge.now t es event plain)
     (reduce_at (g.J.StateJudge.allows c.args.judge.now) (g.J.StateJudge.good c.args.judge.now) c.loop-number.workspace c.loop-number.reached.parts.claims
     (rw (sym c.loop-number.invariant.claims) at c.requires.reduced))
     (ap (λ (s : StartView). s.medium) c.loop-number.invariant.start) c.loop-number.invariant.covers.0 closed (λ n few. c.loop-number.invariant.good n (omega (arith, few, past))) in
@@ -60,7 +60,7 @@ returns-then-number-met-clause-good g c =
           let asked : c.args.judged.now.ways.asked ≡ true = c.requires.given.2.asks demanded in
           ends_either (g.J.StateJudge.stands c.args.judge.now) (g.J.StateJudge.allows c.args.judge.now) (g.J.StateJudge.ends c.args.judge.now) c.loop-number.reached
           c.args.reached.now.parts.table.start.program c.args.reached.now.parts.table.start.medium c.args.reached.now.harts
-          (λ t es event plain. g.met.J.StateJudge.unmarked c.args.judge.now t es event plain)
+          (λ t es event plain. (g.met.J.StateJudge g.world.𝓛 g.world.𝓜 g.world.𝓡 ((λ s x. x), (λ x. x), (λ x. x), λ x. x)).unmarked c.args.judge.now t es event plain)
           (inr (c.requires.given.2.free asked)) closed c.loop-number.invariant.covers.0
           (c.requires.given.2.free asked) (each (c.loop-number.invariant.asked ∙ asked)),
     )) is) c.all_judged.ensures.ends
@@ -73,7 +73,7 @@ returns-then-number-met-clause-requests g c = IfOk-weaker c.all_judged.result _ 
 )) c.all_judged.ensures.requests
 
 pub all_judged-requires-clause-turns : goal.all_judged-requires-clause-turns
-all_judged-requires-clause-turns g c asked =
+all_judged-requires-clause-turns g c κs within asked =
     let past : length c.loop-number.reached.states ≤ c.loop-number.number = search rules in
     let was : c.args.judged.now.ways.asked ≡ true = sym c.loop-number.invariant.asked ∙ asked in
     let all : c.loop-number.number ≡ length c.loop-number.reached.states = omega (arith, past, c.loop-number.invariant.within) in record {
@@ -83,7 +83,7 @@ all_judged-requires-clause-turns g c asked =
     }
 
 pub all_judged-requires-clause-some : goal.all_judged-requires-clause-some
-all_judged-requires-clause-some g c =
+all_judged-requires-clause-some g c κs within =
     omega (arith, slice_get_within c.loop-number.reached.states c.loop-number.invariant.covers.0.number c.loop-number.invariant.covers.0.met.numbers c.loop-number.invariant.covers.0.met.found)
 
 pub returns-clause-good : goal.returns-clause-good
@@ -96,7 +96,7 @@ returns-clause-good g c =
     good_either (g.J.StateJudge.stands c.args.judge.now) (g.J.StateJudge.allows c.args.judge.now)
     (g.J.StateJudge.good c.args.judge.now c.loop-number.workspace) (g.J.StateJudge.ends c.args.judge.now) c.loop-number.reached
     c.args.reached.now.parts.table.start.program c.args.reached.now.parts.table.start.medium c.args.reached.now.harts
-    (λ t es event plain. g.met.J.StateJudge.unmarked c.args.judge.now t es event plain)
+    (λ t es event plain. (g.met.J.StateJudge g.world.𝓛 g.world.𝓜 g.world.𝓡 ((λ s x. x), (λ x. x), (λ x. x), λ x. x)).unmarked c.args.judge.now t es event plain)
     (reduce_at (g.J.StateJudge.allows c.args.judge.now) (g.J.StateJudge.good c.args.judge.now) c.loop-number.workspace c.loop-number.reached.parts.claims
     (rw (sym c.loop-number.invariant.claims) at c.requires.reduced))
     (ap (λ (s : StartView). s.medium) c.loop-number.invariant.start) c.loop-number.invariant.covers.0 closed (λ n few. c.loop-number.invariant.good n (omega (arith, few, past))) in
@@ -106,7 +106,7 @@ returns-clause-good g c =
           let asked : c.args.judged.now.ways.asked ≡ true = c.requires.given.2.asks demanded in
           ends_either (g.J.StateJudge.stands c.args.judge.now) (g.J.StateJudge.allows c.args.judge.now) (g.J.StateJudge.ends c.args.judge.now) c.loop-number.reached
           c.args.reached.now.parts.table.start.program c.args.reached.now.parts.table.start.medium c.args.reached.now.harts
-          (λ t es event plain. g.met.J.StateJudge.unmarked c.args.judge.now t es event plain)
+          (λ t es event plain. (g.met.J.StateJudge g.world.𝓛 g.world.𝓜 g.world.𝓡 ((λ s x. x), (λ x. x), (λ x. x), λ x. x)).unmarked c.args.judge.now t es event plain)
           (inr (c.requires.given.2.free asked)) closed c.loop-number.invariant.covers.0
           (c.requires.given.2.free asked) (each (c.loop-number.invariant.asked ∙ asked)),
     )) is) c.all_judged-2.ensures.ends
@@ -119,7 +119,7 @@ returns-clause-requests g c = IfOk-weaker c.all_judged-2.result _ _ (λ explored
 )) c.all_judged-2.ensures.requests
 
 pub all_judged-requires-2-clause-turns : goal.all_judged-requires-2-clause-turns
-all_judged-requires-2-clause-turns g c asked =
+all_judged-requires-2-clause-turns g c κs within asked =
     let past : length c.loop-number.reached.states ≤ c.loop-number.number = search rules in
     let was : c.args.judged.now.ways.asked ≡ true = sym c.loop-number.invariant.asked ∙ asked in
     let all : c.loop-number.number ≡ length c.loop-number.reached.states = omega (arith, past, c.loop-number.invariant.within) in record {
@@ -129,7 +129,7 @@ all_judged-requires-2-clause-turns g c asked =
     }
 
 pub all_judged-requires-2-clause-some : goal.all_judged-requires-2-clause-some
-all_judged-requires-2-clause-some g c =
+all_judged-requires-2-clause-some g c κs within =
     omega (arith, slice_get_within c.loop-number.reached.states c.loop-number.invariant.covers.0.number c.loop-number.invariant.covers.0.met.numbers c.loop-number.invariant.covers.0.met.found)
 
 pub returns-in-Some-clause-good : goal.returns-in-Some-clause-good
@@ -216,7 +216,7 @@ loop-number-preserved g c =
       within = omega (arith, within_kept c.loop-number.reached.states c.go_on_all.new.self.states c.loop-number.number c.go_on_all.ensures.grown.states there);
       limits = c.judge_state.ensures.limits ∙ c.loop-number.invariant.limits;
       known = known_kept (g.J.StateJudge.stands c.args.judge.now) (g.J.StateJudge.allows c.args.judge.now) (g.J.StateJudge.ends c.args.judge.now) c.loop-number.reached c.go_on_all.new.self _ _
-          c.go_on_all.ensures.before.0 c.go_on_all.ensures.grown c.go_on_all.ensures.before.2 c.look_ahead.ensures;
+          c.go_on_all.ensures.before.0 c.go_on_all.ensures.grown c.go_on_all.ensures.before.2 c.look_ahead.ensures.known;
       fits = rw start c.judge_state.ensures.fits;
       kept = λ events full image good. c.judge_state.ensures.kept events full image (c.loop-number.invariant.kept events full image good);
       told = c.tell.ensures c.args.watcher.now c.loop-number.invariant.told;
@@ -229,13 +229,15 @@ judge_state-requires-clause-happens g c κs within =
     (rw (c.loop-number.invariant.start, c.loop-number.invariant.harts) c.requires.given.1) there
 
 pub go_on_all-requires-clause-claims : goal.go_on_all-requires-clause-claims
-go_on_all-requires-clause-claims g c = may_claim (g.J.StateJudge.allows c.args.judge.now) _ c.loop-number.reached.parts.claims
+go_on_all-requires-clause-claims g c κs within = may_claim (g.J.StateJudge.allows c.args.judge.now) _ c.loop-number.reached.parts.claims
     (rw (sym c.loop-number.invariant.claims) at c.requires.reduced)
 
 pub look_ahead-requires-clause-claims : goal.look_ahead-requires-clause-claims
-look_ahead-requires-clause-claims g c = may_claim (g.J.StateJudge.allows c.args.judge.now) _ c.loop-number.reached.parts.claims
+look_ahead-requires-clause-claims g c κs within = may_claim (g.J.StateJudge.allows c.args.judge.now) _ c.loop-number.reached.parts.claims
     (rw (sym c.loop-number.invariant.claims) at c.requires.reduced)
 
 pub go_on_all-requires-clause-known : goal.go_on_all-requires-clause-known
-go_on_all-requires-clause-known g c = known_of (g.J.StateJudge.stands c.args.judge.now) (g.J.StateJudge.allows c.args.judge.now) (g.J.StateJudge.ends c.args.judge.now) c.loop-number.reached _ c.loop-number.number _
-    c.of.result c.look_ahead.ensures c.of.ensures
+go_on_all-requires-clause-known g c κs within = some_then _ _ c.of.result
+    (λ turns at. known_of (g.J.StateJudge.stands c.args.judge.now) (g.J.StateJudge.allows c.args.judge.now) (g.J.StateJudge.ends c.args.judge.now) c.loop-number.reached _ c.loop-number.number _
+    turns.now c.look_ahead.ensures.known at)
+    c.of.ensures

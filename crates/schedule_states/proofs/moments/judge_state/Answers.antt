@@ -55,7 +55,9 @@ returns-clause-good g c = IfOk-weaker c.judge.result _ _ (λ stop is told.
     )) c.judge.ensures.good
 
 pub numbers-numbers-requires : goal.numbers-numbers-requires
-numbers-numbers-requires g c = c.requires.happens.there
+numbers-numbers-requires g c =
+    let there : c.args.number < length c.args.reached.now.states = c.requires.happens.there in
+    search rules
 
 pub judge-requires-clause-happens : goal.judge-requires-clause-happens
 judge-requires-clause-happens g c κs within =

@@ -6,12 +6,12 @@ use Rattle.schedule_states.proofs.Turning.{turns_inside}
 use Rattle.schedule_states.proofs.ways_out.all_judged.Goals as goal
 
 pub stuck_state-requires-clause-inside : goal.stuck_state-requires-clause-inside
-stuck_state-requires-clause-inside g c =
+stuck_state-requires-clause-inside g c κs within =
     let asked : c.args.judged.now.ways.asked ≡ true = search rules in
     turns_inside (g.J.StateJudge.stands c.args.judge.now) (g.J.StateJudge.allows c.args.judge.now) c.args.reached.now c.args.judged.now.ways.next.items (c.requires.turns asked).turns
 
 pub shown-requires-clause-inside : goal.shown-requires-clause-inside
-shown-requires-clause-inside g c =
+shown-requires-clause-inside g c κs within =
     let asked : c.args.judged.now.ways.asked ≡ true = search rules in
     turns_inside (g.J.StateJudge.stands c.args.judge.now) (g.J.StateJudge.allows c.args.judge.now) c.args.reached.now c.args.judged.now.ways.next.items (c.requires.turns asked).turns
 

@@ -10,7 +10,7 @@ use Rattle.schedule_states.proofs.line_table.LineTable.state_of.Goals as goal
 pub unwrap-requires : goal.unwrap-requires
 unwrap-requires c =
     let none : state_in c.args.self.now.states c.args.held.now c.args.line ≡ None = search rules in
-    let same : c.self.inside.start ≡ c.args.self.now.start = search rules in
+    let same : c.self.inside.start.now ≡ c.args.self.now.start = search rules in
     some_unless c.line.result c.line.ensures.none
     (λ lacks. c.requires.there (lacks_both c.args.self.now c.args.held.now c.args.line none (rw same at lacks)))
 
@@ -24,7 +24,7 @@ returns-in-Some-clause-now c =
 pub returns-in-None-clause-now : goal.returns-in-None-clause-now
 returns-in-None-clause-now c =
     let none : state_in c.args.self.now.states c.args.held.now c.args.line ≡ None = search rules in
-    let same : c.self.inside.start ≡ c.args.self.now.start = search rules in
+    let same : c.self.inside.start.now ≡ c.args.self.now.start = search rules in
     let whole : length c.unwrap.result.now ≡ 64 = search rules in
     let shown : ShowsLine (memory_at c.args.self.now.start) c.args.line c.unwrap.result.now =
     rw same at (rw c.unwrap.ensures at c.line.ensures.some) in

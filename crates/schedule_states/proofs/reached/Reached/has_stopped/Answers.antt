@@ -1,4 +1,4 @@
-use Rattle.std.proofs.Common.{rules}
+use Rattle.std.proofs.Common.{◌<◌, length, slice_index_or, rules}
 use Rattle.std.proofs.lemmas.Option.{slice_get_within}
 use Rattle.schedule_states.proofs.Ending.{running_part, stopped_more, stopped_parts}
 use Rattle.schedule_states.proofs.reached.Reached.has_stopped.Goals as goal
@@ -6,7 +6,8 @@ use Rattle.schedule_states.proofs.reached.Reached.has_stopped.Goals as goal
 pub part-part-requires : goal.part-part-requires
 part-part-requires g c =
     let part = c.numbers-numbers.ensures.there.harts c.loop-hart.hart (search rules) in
-    slice_get_within c.args.self.now.hart_parts _ part.0 part.1
+    let there : slice_index_or c.numbers-numbers.result.harts c.loop-hart.hart 0 < length c.args.self.now.hart_parts = slice_get_within c.args.self.now.hart_parts _ part.0 part.1 in
+    search rules
 
 pub loop-hart-preserved : goal.loop-hart-preserved
 loop-hart-preserved g c = stopped_more c.args.self.now.hart_parts c.numbers-numbers.result.harts c.loop-hart.hart c.part-part.result c.loop-hart.invariant c.part-part.ensures

@@ -1,5 +1,5 @@
 use Rattle.schedule_states.proofs.Onward.{known_of_placed}
 use Rattle.schedule_states.proofs.reached.Reached.known_turn.Goals as goal
 
-pub returns-in-Ok : goal.returns-in-Ok
-returns-in-Ok g c = ?
+pub returns-in-Ok-Ok : goal.returns-in-Ok-Ok
+returns-in-Ok-Ok g c = ?

@@ -6,14 +6,14 @@ use Rattle.schedule_states.specs.Covering.{IsMet, PartsEndWell}
 use Rattle.schedule_states.proofs.reached.Reached.look.Goals as goal
 
 pub turns-requires-clause-parts : goal.turns-requires-clause-parts
-turns-requires-clause-parts g c = (
+turns-requires-clause-parts g c κs within = (
   c.in_ok-state.ensures.parts,
   lists_of_parts c.args.self.now c.args.number c.numbers-numbers.result c.in_ok-state.state c.numbers-numbers.ensures.found
       c.in_ok-state.ensures.memory c.in_ok-state.ensures.parts c.numbers-numbers.ensures.there,
 )
 
 pub turns-requires-clause-known : goal.turns-requires-clause-known
-turns-requires-clause-known g c t kept = c.requires.known c.in_ok-state.state t (met_of_parts c.args.self.now c.args.number c.numbers-numbers.result c.in_ok-state.state t
+turns-requires-clause-known g c κs within t kept = c.requires.known c.in_ok-state.state t (met_of_parts c.args.self.now c.args.number c.numbers-numbers.result c.in_ok-state.state t
     c.numbers-numbers.ensures.found c.in_ok-state.ensures.memory kept c.in_ok-state.ensures.parts)
 
 pub returns-clause-turns : goal.returns-clause-turns

@@ -12,6 +12,11 @@ invariant_of-self g c = numbered_parts
     (record { parts = c.self.inside.parts; hart_parts = c.self.inside.hart_parts; standings = c.self.inside.standings; states = c.self.inside.states; harts = c.self.inside.leads })
     c.numbers_of.new.known c.numbers_of.ensures.kept c.self.invariant
 
+pub invariant_of-self-2 : goal.invariant_of-self-2
+invariant_of-self-2 g c = numbered_parts
+    (record { parts = c.self.inside.parts; hart_parts = c.self.inside.hart_parts; standings = c.self.inside.standings; states = c.self.inside.states; harts = c.self.inside.leads })
+    c.numbers_of.new.known c.numbers_of.ensures.kept c.self.invariant
+
 pub returns-clause-met : goal.returns-clause-met
 returns-clause-met g c =
     let count : length c.args.state.now.harts.items ≡ c.self.inside.leads = rw (sym c.self.view_is) at c.requires.count in

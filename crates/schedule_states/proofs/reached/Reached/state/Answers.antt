@@ -1,4 +1,4 @@
-use Rattle.std.proofs.Common.{◌≡◌, ◌++◌, ◌∷◌, [], rules}
+use Rattle.std.proofs.Common.{◌≡◌, ◌<◌, ◌++◌, ◌∷◌, [], length, slice_index_or, rules}
 use Rattle.std.proofs.lemmas.Option.{slice_get_within}
 use Rattle.schedule_states.proofs.Numbering.{parts_more}
 use Rattle.schedule_states.proofs.reached.Reached.state.Goals as goal
@@ -11,4 +11,5 @@ loop-hart-preserved g c =
 pub part-part-requires : goal.part-part-requires
 part-part-requires g c =
     let part = c.requires.harts c.loop-hart.hart (search rules) in
-    slice_get_within c.args.self.now.hart_parts _ part.0 part.1
+    let there : slice_index_or c.args.numbers.now.harts c.loop-hart.hart 0 < length c.args.self.now.hart_parts = slice_get_within c.args.self.now.hart_parts _ part.0 part.1 in
+    search rules

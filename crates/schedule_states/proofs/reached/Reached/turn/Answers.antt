@@ -23,7 +23,7 @@ returns-then-not-may_go-clause-turn g c = λ t kept k d stands_as may asks.
     absurd (c.may_go.ensures.not refused t kept (trace_in k.common) stands_as.1 may)
 
 pub numbers_for-requires-clause-before : goal.numbers_for-requires-clause-before
-numbers_for-requires-clause-before g c =
+numbers_for-requires-clause-before g c κs within =
     let parts = subst (λ (r : ReachedView _). ArePartsOf r c.args.numbers.now r.harts c.args.state.now.harts.items) (sym c.self.view_is) c.requires.parts in
     let moved : IfState (answer.State c.in-State.next c.in-State.mark) (λ next. HaveMoved c.args.hart c.args.state.now.harts.items next.harts.items) =
     rw c.in-State.is at c.in_ok-next.ensures.harts in

@@ -1,9 +1,9 @@
-use Rattle.std.proofs.Common.{◌≡◌, ◌<◌, ℕ, List, None, length, slice_index_or, refl, sym, ◌∙◌, subst, arith, rules}
+use Rattle.std.proofs.Common.{◌≡◌, ◌<◌, ℕ, List, None, Some, length, slice_index_or, refl, sym, ◌∙◌, subst, arith, rules}
 use Rattle.std.proofs.lemmas.List.{get_or_default, length-set}
 use Rattle.schedule_states.proofs.Closing.{before_twice, grown_twice}
 use Rattle.schedule_states.proofs.Looking.{within_kept}
 use Rattle.schedule_states.proofs.Numbering.{lists_kept, parts_kept}
-use Rattle.schedule_states.proofs.Onward.{all_known_set, no_turns_to, none_all_known, some_as_kept, turns_to_kept, turns_to_more}
+use Rattle.schedule_states.proofs.Onward.{all_known_set, some_as_kept, turns_to_kept, turns_to_more}
 use Rattle.schedule_states.specs.Onward.{AreAllKnown, AreTurnsTo}
 use Rattle.schedule_states.specs.Reaching.{HaveGrown}
 use Rattle.schedule_states.specs.Turns.{MayClaim}
@@ -21,31 +21,31 @@ loop-hart-init g c = record {
   };
   before = λ s k lists stands. stands;
   lists = c.requires.parts.1;
-  turns = λ t kept. no_turns_to (g.J.StateJudge.stands c.args.judge.now) (g.J.StateJudge.allows c.args.judge.now) c.args.self.now c.args.from.state.now t _;
-  all = none_all_known _;
+  turns = λ t kept h few. absurd (omega (arith, few));
+  all = λ h few. absurd (omega (arith, few));
   harts = search rules;
   states = refl;
   long = refl;
 }
 
 pub turn_or-requires-clause-there : goal.turn_or-requires-clause-there
-turn_or-requires-clause-there g c = (
-  omega (arith, c.loop-hart.within, c.loop-hart.invariant.harts),
+turn_or-requires-clause-there g c κs within = (
+  omega (arith, c.loop-hart-test.true, c.loop-hart.invariant.harts),
   within_kept c.args.self.now.standings c.loop-hart.self.standings c.args.from.numbers.now.standing c.loop-hart.invariant.grown.standings c.requires.standing,
 )
 
 pub turn_or-requires-clause-parts : goal.turn_or-requires-clause-parts
-turn_or-requires-clause-parts g c = (
+turn_or-requires-clause-parts g c κs within = (
   parts_kept c.args.self.now c.loop-hart.self c.args.from.numbers.now c.args.from.state.now.harts.items c.loop-hart.invariant.grown c.requires.parts.0,
   c.loop-hart.invariant.lists,
 )
 
 pub turn_or-requires-clause-claims : goal.turn_or-requires-clause-claims
-turn_or-requires-clause-claims g c = subst (λ (claims : List ClaimedLine). MayClaim (g.J.StateJudge.allows c.args.judge.now) claims) (sym c.loop-hart.invariant.grown.parts.claims) c.requires.claims
+turn_or-requires-clause-claims g c κs within = subst (λ (claims : List ClaimedLine). MayClaim (g.J.StateJudge.allows c.args.judge.now) claims) (sym c.loop-hart.invariant.grown.parts.claims) c.requires.claims
 
 pub turn_or-requires-clause-known : goal.turn_or-requires-clause-known
-turn_or-requires-clause-known g c =
-    let few : c.loop-hart.hart < c.args.self.now.harts = omega (arith, c.loop-hart.within, c.loop-hart.invariant.harts, c.loop-hart.invariant.grown.harts) in
+turn_or-requires-clause-known g c κs within =
+    let few : c.loop-hart.hart < c.args.self.now.harts = omega (arith, c.loop-hart-test.true, c.loop-hart.invariant.harts, c.loop-hart.invariant.grown.harts) in
     let there : c.loop-hart.hart < length c.args.known.now = search rules in
     let is : c.index-known-hart.result ≡ slice_index_or c.args.known.now c.loop-hart.hart None = c.index-known-hart.is ∙ get_or_default c.args.known.now c.loop-hart.hart _ None there in
     rw is (some_as_kept (g.J.StateJudge.stands c.args.judge.now) (g.J.StateJudge.allows c.args.judge.now) c.args.self.now c.loop-hart.self c.args.from.state.now c.args.from.numbers.now.standing
