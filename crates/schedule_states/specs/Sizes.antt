@@ -1,0 +1,31 @@
+-- How many bytes the tables of a search hold: each entry with its place in the index, and what it holds elsewhere with 16 bytes of the allocator.
+use Rattle.std.specs.Prelude.{ℕ, List, length}
+use Rattle.std.specs.List.{sum_by}
+use Rattle.schedule_states.specs.Covering.{ReachedView}
+use Rattle.schedule_states.specs.Media.{MediaView}
+use Rattle.schedule_states.specs.declared.held_lines.HeldLine.{HeldLine}
+use Rattle.schedule_states.specs.declared.line_state.LineState.{LineState}
+
+-- how many lines lists hold in all
+abbrev pub lines_in : List (List HeldLine) → ℕ
+lines_in lists = sum_by length lists
+
+-- how many contents states have in all, but for what loads find
+abbrev pub others_in : List LineState → ℕ
+others_in states = sum_by (λ state. length state.others.items) states
+
+-- lists of held lines
+abbrev pub list_bytes : List (List HeldLine) → ℕ
+list_bytes lists = 56 * length lists + 8 * lines_in lists
+
+-- states of lines
+abbrev pub line_bytes : List LineState → ℕ
+line_bytes states = 120 * length states + 72 * others_in states
+
+-- what was reached
+abbrev pub reached_bytes : {T : Type 0} → ReachedView T → ℕ
+reached_bytes r = 64 * length r.states + 320 * length r.hart_parts + (line_bytes r.parts.table.states + list_bytes r.parts.lists)
+
+-- what the lists of a search hold of the medium
+abbrev pub media_bytes : MediaView → ℕ
+media_bytes media = list_bytes media.lists + 4 * length media.numbers
