@@ -130,7 +130,7 @@ impl<'a, J: StateJudge> Reached<'a, J> {
         ensures few { result < 2 ^ 75 }
     {
         let states = 64 * self.count() as u128;
-        let harts = 320 * self.hart_parts.count() as u128;
+        let harts = 312 * self.hart_parts.count() as u128;
         states + harts + self.parts.bytes()
     }
 
