@@ -1,7 +1,6 @@
 -- How many bytes the tables of a search hold. An entry has its own, and 16 for its place in the index, which takes 15 to 23. What it holds
 -- elsewhere has 16 of the allocator. Room for further entries isn't counted, nor is what is kept of the operations.
-use Rattle.std.specs.Prelude.{ℕ, List, length}
-use Rattle.std.specs.List.{sum_by}
+use Rattle.std.specs.Prelude.{ℕ, ◌+◌, ◌*◌, List, length, sum_by}
 use Rattle.schedule_states.specs.Covering.{ReachedView}
 use Rattle.schedule_states.specs.Media.{MediaView}
 use Rattle.schedule_states.specs.declared.held_lines.HeldLine.{HeldLine}
@@ -13,7 +12,7 @@ lines_in lists = sum_by length lists
 
 -- how many contents states have in all, but for what loads find
 abbrev pub others_in : List LineState → ℕ
-others_in states = sum_by (λ state. length state.others.items) states
+others_in states = sum_by (λ (state : LineState). length state.others.items) states
 
 -- lists of held lines: 24 bytes each, and 8 a line
 abbrev pub list_bytes : List (List HeldLine) → ℕ
