@@ -111,12 +111,7 @@ fn progress_line(
 }
 
 /// `states N, waiting N, bytes N`: how many were met, how many of those the search hasn't come to yet, and how many bytes its tables hold.
-fn states_line(
-    alloc: Global,
-    met: usize,
-    waiting: usize,
-    bytes: u128,
-) -> Result<String, AllocError>
+fn states_line(alloc: Global, met: usize, waiting: usize, bytes: u128) -> Result<String, AllocError>
     ensures { IfOk result (λ line. string_bytes line ≡ states_line met waiting bytes) }
 {
     format!(in alloc; "states {met}, waiting {waiting}, bytes {bytes}\n")
