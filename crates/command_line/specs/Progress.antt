@@ -18,13 +18,14 @@ progress_line moment moments images =
 abbrev pub gets_line : List ℕ → ℕ → ℕ → Option ℕ → List ℕ → Type 0
 gets_line text moment moments images text' = (text' ≡ text) ⊎ (text' ≡ text ++ progress_line moment moments images)
 
--- `states N, waiting N`
-abbrev pub states_line : ℕ → ℕ → List ℕ
-states_line met waiting = codes "states " ++ (decimal met ++ (codes ", waiting " ++ (decimal waiting ++ line_end)))
+-- `states N, waiting N, bytes N`
+abbrev pub states_line : ℕ → ℕ → ℕ → List ℕ
+states_line met waiting bytes =
+    codes "states " ++ (decimal met ++ (codes ", waiting " ++ (decimal waiting ++ (codes ", bytes " ++ (decimal bytes ++ line_end)))))
 
 -- a text that reports how many states were met gets such a line, or none
-abbrev pub gets_states_line : List ℕ → ℕ → ℕ → List ℕ → Type 0
-gets_states_line text met waiting text' = (text' ≡ text) ⊎ (text' ≡ text ++ states_line met waiting)
+abbrev pub gets_states_line : List ℕ → ℕ → ℕ → ℕ → List ℕ → Type 0
+gets_states_line text met waiting bytes text' = (text' ≡ text) ⊎ (text' ≡ text ++ states_line met waiting bytes)
 
 -- such a text, or a front of it, was written
 pub record Progresses (tells : List ℕ → Type 0) (old new : Option (List ℕ)) : Type 0 where

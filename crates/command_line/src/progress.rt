@@ -74,12 +74,12 @@ impl<C: Clock, E: Write> Watcher for Reporter<'_, C, E> {
     ghost use Rattle.command_line.specs.Progress.{WritesIf, states_line};
     ghost use Rattle.std.specs.Prelude.{◌≡◌};
 
-    ghost hears = { λ before met waiting after. (after.errors.ghost_name ≡ before.errors.ghost_name)
-        × WritesIf E.contents (states_line met waiting) before.is_wanted before.errors.now after.is_wanted after.errors.now };
+    ghost hears = { λ before met waiting bytes after. (after.errors.ghost_name ≡ before.errors.ghost_name)
+        × WritesIf E.contents (states_line met waiting bytes) before.is_wanted before.errors.now after.is_wanted after.errors.now };
 
-    fn hear(&mut self, met: usize, waiting: usize) {
+    fn hear(&mut self, met: usize, waiting: usize, bytes: u128) {
         if self.is_wanted && self.pace.is_due_in_its_stride(self.clock) {
-            let line = states_line(self.alloc, met, waiting);
+            let line = states_line(self.alloc, met, waiting, bytes);
             self.is_wanted = tell(line, self.errors).is_ok();
         }
     }
@@ -110,11 +110,11 @@ fn progress_line(
     }
 }
 
-/// `states N, waiting N`: how many were met, and how many of those the search hasn't come to yet.
-fn states_line(alloc: Global, met: usize, waiting: usize) -> Result<String, AllocError>
-    ensures { IfOk result (λ line. string_bytes line ≡ states_line met waiting) }
+/// `states N, waiting N, bytes N`: how many were met, how many of those the search hasn't come to yet, and how many bytes its tables hold.
+fn states_line(alloc: Global, met: usize, waiting: usize, bytes: u128) -> Result<String, AllocError>
+    ensures { IfOk result (λ line. string_bytes line ≡ states_line met waiting bytes) }
 {
-    format!(in alloc; "states {met}, waiting {waiting}\n")
+    format!(in alloc; "states {met}, waiting {waiting}, bytes {bytes}\n")
 }
 
 /// The least time from a line to the next, in milliseconds.

@@ -21,6 +21,7 @@ pub mod Persisting
 pub mod Reaching
 pub mod Requests
 pub mod Seen
+pub mod Sizes
 pub mod StartLines
 pub mod States
 pub mod Successors

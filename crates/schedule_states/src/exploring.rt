@@ -1,6 +1,6 @@
 //! The search through all states of a program.
 
-ghost use Rattle.std.specs.Prelude.{◌≡◌, ◌≤◌, [], filter, true, length, IfOk, IfSome};
+ghost use Rattle.std.specs.Prelude.{◌≡◌, ◌*◌, ◌≤◌, [], filter, true, length, IfOk, IfSome};
 ghost use Rattle.machine.specs.Run.{started};
 ghost use Rattle.schedule_states.specs.Claims.{is_of_other};
 ghost use Rattle.schedule_states.specs.Covering.{CoversAt};
@@ -280,7 +280,7 @@ fn search<T: Threads + Sync, J: StateJudge + Sync, W: Watcher>(
         if number as usize >= met {
             return all_judged(judge, reached, judged);
         }
-        tell(watcher, met, number);
+        tell(watcher, met, number, reached.bytes() + judged.bytes());
         if let Some(stop) = judge_state(rt, judge, reached, judged, workspace, number)? {
             return found(alloc, reached, number, stop);
         }
@@ -296,12 +296,13 @@ fn search<T: Threads + Sync, J: StateJudge + Sync, W: Watcher>(
     all_judged(judge, reached, judged)
 }
 
-/// Tells a watcher that so many states were met, of which those from this number on wait.
-fn tell<W: Watcher>(watcher: &mut W, met: usize, number: u32)
-    requires { number ≤ met }
+/// Tells a watcher that so many states were met, of which those from this number on wait, in so many bytes.
+fn tell<W: Watcher>(watcher: &mut W, met: usize, number: u32, bytes: u128)
+    requires few { number ≤ met }
+    requires bytes { 64 * met ≤ bytes }
     ensures { (first : W) → HasHeard W.hears first watcher.old → HasHeard W.hears first watcher.new }
 {
-    watcher.hear(met, met - number as usize);
+    watcher.hear(met, met - number as usize, bytes);
 }
 
 /// The search goes no further from the state of a number.

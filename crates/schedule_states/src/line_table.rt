@@ -1,16 +1,17 @@
 //! The lines of the address space by the numbers of their states, and what a request does to them.
 
-ghost use Rattle.std.specs.Prelude.{◌≡◌, ◌%◌, ◌^◌, ◌<◌, ◌≤◌, ℕ, Bool, List, [], ◌∷◌, ◌++◌, None, Option, length, IfNone, IfOk, IfSome, IsTrue, OnOk};
+ghost use Rattle.std.specs.Prelude.{◌≡◌, ◌%◌, ◌^◌, ◌<◌, ◌≤◌, ℕ, Bool, List, [], ◌∷◌, ◌++◌, None, Some, Option, length, slice_get, IfNone, IfOk, IfSome, IsTrue, OnOk};
 ghost use Rattle.hart.specs.Requests.{IsRequest};
 ghost use Rattle.machine.specs.Histories.{memory_after};
 ghost use Rattle.machine.specs.Replies.{events_of, replied};
 ghost use Rattle.store_trace.specs.History.{history};
 ghost use Rattle.line_memory.specs.Memory.{IsWidth, Memory, fault_of, stored_to};
 ghost use Rattle.schedule_states.specs.HeldLines.{AreBelow};
-ghost use Rattle.schedule_states.specs.Memories.{IsAsAtStart, IsKept, IsFencedAt, IsLineAfter, IsMemoryOf, IsPut, IsStateNow, IsStateOf, memory_over, state_in, steps_of_clean, steps_of_write};
+ghost use Rattle.schedule_states.specs.Memories.{AreSame, IsAsAtStart, IsKept, IsFencedAt, IsLineAfter, IsMemoryOf, IsPut, IsStateNow, IsStateOf, memory_over, state_in, steps_of_clean, steps_of_write};
 ghost use Rattle.schedule_states.specs.LineStates.{IsLineState};
 ghost use Rattle.schedule_states.specs.Numbers.{AreKept};
 ghost use Rattle.schedule_states.specs.declared.line_state.LineState.{LineState as AState};
+ghost use Rattle.schedule_states.specs.Sizes.{line_bytes};
 ghost use Rattle.schedule_states.specs.StartLines.{LacksLine, memory_at};
 ghost use Rattle.store_trace.specs.declared.crash_model.step.PersistenceStep.TheVariants as step;
 ghost use Rattle.store_trace.specs.declared.crash_model.step.PersistenceStep.{PersistenceStep};
@@ -19,7 +20,7 @@ ghost use Rattle.word_bits.specs.Bytes.{stored};
 use crate::held_lines::{HeldLine, with_state, without};
 use crate::laws::equal_lines_are_same;
 use crate::line_state::LineState;
-use crate::numbers::Numbers;
+use crate::numbers::{Numbers, grown};
 use crate::request::written;
 use crate::start_lines::StartLines;
 use crate::state_memory::StateMemory;
@@ -33,14 +34,20 @@ use std::marker::Model;
 pub struct LineTable<'a> {
     start: &'a StartLines<'a>,
     states: Numbers<'a, LineState>,
+    /// How many contents they have in all, but for what loads find.
+    others: u64,
 }
 
 impl<'a> Model for LineTable<'a> {
+    ghost use Rattle.std.specs.Prelude.{◌≡◌};
     ghost use Rattle.schedule_states.specs.Memories.{TableView};
+    ghost use Rattle.schedule_states.specs.Sizes.{others_in};
 
     ghost Value = { TableView };
 
     ghost view = { λ t. record { start = t.start.now; states = t.states } };
+
+    ghost invariant = { λ t. t.others ≡ others_in t.states };
 }
 
 impl<'a> LineTable<'a> {
@@ -51,6 +58,7 @@ impl<'a> LineTable<'a> {
         LineTable {
             start,
             states: Numbers::new(alloc),
+            others: 0,
         }
     }
 
@@ -61,6 +69,7 @@ impl<'a> LineTable<'a> {
         LineTable {
             start: self.start,
             states: self.states.lent(),
+            others: self.others,
         }
     }
 
@@ -255,9 +264,32 @@ impl<'a> LineTable<'a> {
         if self.is_as_at_start(line, &state) {
             return without(alloc, held, line as u32);
         }
-        equal_lines_are_same();
-        let number = self.states.number_of(state)?;
+        let number = self.number_of(state)?;
         with_state(alloc, held, line as u32, number)
+    }
+
+    /// The number of a state.
+    fn number_of(&mut self, state: LineState) -> Result<u32, AllocError>
+        ensures start { self.new.start ≡ self.old.start }
+        ensures grows { AreKept self.old.states self.new.states }
+        ensures number { IfOk result (λ number. (found : AState) × (slice_get self.new.states number ≡ Some found) × AreSame state found) }
+    {
+        equal_lines_are_same();
+        let others = grown(self.others, state.others.len())?;
+        let known = self.states.count();
+        let number = self.states.number_of(state);
+        if self.states.count() > known {
+            self.others = others;
+        }
+        number
+    }
+
+    /// How many bytes the states hold.
+    pub fn bytes(&self) -> u128
+        ensures bytes { result ≡ line_bytes self.now.states }
+        ensures few { result < 2 ^ 73 }
+    {
+        120 * self.states.count() as u128 + 72 * u128::from(self.others)
     }
 
     /// Whether a line that has this state is as it was at the start.

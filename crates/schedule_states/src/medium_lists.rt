@@ -1,8 +1,9 @@
 //! What lists of held lines hold of the medium, each by its number.
 
-ghost use Rattle.std.specs.Prelude.{◌≡◌, ◌<◌, ◌+◌, Some, [], length, slice_get, IfOk, OnOk};
+ghost use Rattle.std.specs.Prelude.{◌≡◌, ◌<◌, ◌+◌, ◌^◌, Some, [], length, slice_get, IfOk, OnOk};
 ghost use Rattle.schedule_states.specs.Media.{AreOnMedium, IsOnMedium};
 ghost use Rattle.schedule_states.specs.Numbers.{AreKept};
+ghost use Rattle.schedule_states.specs.Sizes.{media_bytes};
 
 use crate::held_lines::{HeldLine, medium_lines};
 use crate::memory_lists::MemoryLists;
@@ -43,6 +44,14 @@ impl MediumLists {
         ensures { slice_get self.now.lists number ≡ Some result.now }
     {
         self.lists.list(number)
+    }
+
+    /// How many bytes they hold.
+    pub fn bytes(&self) -> u128
+        ensures bytes { result ≡ media_bytes self.now }
+        ensures few { result < 2 ^ 73 }
+    {
+        self.lists.bytes() + 4 * self.numbers.len() as u128
     }
 
     /// The number of what the list of a number of the search holds of the medium.

@@ -1,11 +1,12 @@
 //! Lists of held lines, each by its number.
 
-ghost use Rattle.std.specs.Prelude.{◌≡◌, ◌⊎◌, ◌++◌, ◌∷◌, ◌<◌, Some, [], length, slice_get, IfOk};
+ghost use Rattle.std.specs.Prelude.{◌≡◌, ◌⊎◌, ◌^◌, ◌++◌, ◌∷◌, ◌<◌, Some, [], length, slice_get, IfOk};
 ghost use Rattle.schedule_states.specs.Numbers.{AreKept};
+ghost use Rattle.schedule_states.specs.Sizes.{list_bytes};
 
 use crate::held_lines::HeldLine;
 use crate::laws::equal_lists_are_same;
-use crate::numbers::Numbers;
+use crate::numbers::{Numbers, grown};
 use std::alloc::{AllocError, Global};
 use std::marker::Model;
 
@@ -13,15 +14,20 @@ use std::marker::Model;
 #[derive(Drop)]
 pub struct MemoryLists<'a> {
     lists: Numbers<'a, Vec<HeldLine>>,
+    /// How many lines they hold in all.
+    lines: u64,
 }
 
 impl<'a> Model for MemoryLists<'a> {
-    ghost use Rattle.std.specs.Prelude.{List, map};
+    ghost use Rattle.std.specs.Prelude.{◌≡◌, List, map};
+    ghost use Rattle.schedule_states.specs.Sizes.{lines_in};
     ghost use Rattle.schedule_states.specs.declared.held_lines.HeldLine.{HeldLine as AHeldLine};
 
     ghost Value = { List (List AHeldLine) };
 
     ghost view = { λ m. map (λ list. list.items) m.lists };
+
+    ghost invariant = { λ m. m.lines ≡ lines_in (map (λ list. list.items) m.lists) };
 }
 
 impl<'a> MemoryLists<'a> {
@@ -31,6 +37,7 @@ impl<'a> MemoryLists<'a> {
     {
         MemoryLists {
             lists: Numbers::new(alloc),
+            lines: 0,
         }
     }
 
@@ -40,6 +47,7 @@ impl<'a> MemoryLists<'a> {
     {
         MemoryLists {
             lists: self.lists.lent(),
+            lines: self.lines,
         }
     }
 
@@ -65,6 +73,20 @@ impl<'a> MemoryLists<'a> {
         ensures number { IfOk result (λ number. slice_get self.new number ≡ Some list.items) }
     {
         equal_lists_are_same();
-        self.lists.number_of(list)
+        let lines = grown(self.lines, list.len())?;
+        let known = self.lists.count();
+        let number = self.lists.number_of(list);
+        if self.lists.count() > known {
+            self.lines = lines;
+        }
+        number
+    }
+
+    /// How many bytes they hold.
+    pub fn bytes(&self) -> u128
+        ensures bytes { result ≡ list_bytes self.now }
+        ensures few { result < 2 ^ 72 }
+    {
+        56 * self.lists.count() as u128 + 8 * u128::from(self.lines)
     }
 }

@@ -1,8 +1,9 @@
 //! Moments of a search: what a power cut may leave, and what is kept of the operations then. States that differ in neither are judged once.
 
-ghost use Rattle.std.specs.Prelude.{◌≡◌, ◌<◌, [], None, length, IfOk};
+ghost use Rattle.std.specs.Prelude.{◌≡◌, ◌+◌, ◌*◌, ◌^◌, ◌<◌, [], None, length, IfOk};
 ghost use Rattle.schedule_states.specs.Happening.{IsHappening};
 ghost use Rattle.schedule_states.specs.Judging.{AreGoodMoments, IsGoodState, StaysGood};
+ghost use Rattle.schedule_states.specs.Sizes.{media_bytes};
 
 use crate::laws::equal_moments_are_same;
 use crate::medium_lists::MediumLists;
@@ -54,6 +55,16 @@ impl Judged {
             moments: Numbers::new(alloc),
             ways: Ways::new(alloc, asked),
         }
+    }
+
+    /// How many bytes the tables hold.
+    pub fn bytes(&self) -> u128
+        ensures bytes { result ≡ media_bytes self.now.media + (24 * length self.now.moments + 32 * length self.now.ways.next.items) }
+        ensures few { result < 2 ^ 75 }
+    {
+        let moments = 24 * self.moments.count() as u128;
+        let ways = 32 * self.ways.next.len() as u128;
+        self.media.bytes() + (moments + ways)
     }
 }
 

@@ -1,6 +1,6 @@
 //! Values, each once, by its number.
 
-ghost use Rattle.std.specs.Prelude.{◌≡◌, ◌⊎◌, ◌++◌, ◌∷◌, [], IfOk, IfSome};
+ghost use Rattle.std.specs.Prelude.{◌≡◌, ◌⊎◌, ◌+◌, ◌++◌, ◌∷◌, [], length, IfOk, IfSome};
 ghost use Rattle.schedule_states.specs.Numbers.{AreKept, HasNumber, values_in};
 
 use indexmap::IndexSet;
@@ -65,6 +65,13 @@ impl<'a, T: Eq + Hash + Drop> Numbers<'a, T> {
         u32::try_from(number).ok()
     }
 
+    /// How many values there are.
+    pub fn count(&self) -> usize
+        ensures { result ≡ length self.now }
+    {
+        self.as_slice().len()
+    }
+
     /// The number of a value, which is a new one where it has none yet. Over 2^32 values count as out of memory.
     pub fn number_of(&mut self, value: T) -> Result<u32, AllocError>
         ensures kept { AreKept self.old self.new }
@@ -108,4 +115,14 @@ fn number_in<T: Eq + Hash>(values: &IndexSet<T>, value: &T) -> Option<usize>
 {
     let (number, found) = values.get_full(value)?;
     if *value == *found { Some(number) } else { None }
+}
+
+/// A number that grows by another one. One past 2^64 counts as out of memory.
+pub fn grown(number: u64, more: usize) -> Result<u64, AllocError>
+    ensures { IfOk result (λ sum. sum ≡ number + more) }
+{
+    match number.checked_add(more as u64) {
+        Some(sum) => Ok(sum),
+        None => Err(AllocError),
+    }
 }

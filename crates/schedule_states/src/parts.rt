@@ -1,6 +1,6 @@
 //! What the states of a program have in common.
 
-ghost use Rattle.std.specs.Prelude.{◌≡◌, ◌≤◌, ◌<◌, ◌+◌, ◌*◌, true, Some, [], length, slice_get, slice_index_or, IfOk, IfSome};
+ghost use Rattle.std.specs.Prelude.{◌≡◌, ◌≤◌, ◌<◌, ◌+◌, ◌*◌, ◌^◌, true, Some, [], length, slice_get, slice_index_or, IfOk, IfSome};
 ghost use Rattle.line_memory.specs.declared.TheConstants.{TEXT_BASE, TEXT_SIZE};
 ghost use Rattle.hart.specs.Needs.{IsInstruction};
 ghost use Rattle.hart.specs.Requests.{IsRequest};
@@ -8,6 +8,7 @@ ghost use Rattle.machine.specs.Replies.{replied};
 ghost use Rattle.schedule_states.specs.Ahead.{ComesAlone, IsNext};
 ghost use Rattle.schedule_states.specs.HeldLines.{AreBelow};
 ghost use Rattle.schedule_states.specs.Requests.{is_reserved};
+ghost use Rattle.schedule_states.specs.Sizes.{line_bytes, list_bytes};
 ghost use Rattle.schedule_states.specs.States.{AreGrown, AreLists, StandsFor};
 ghost use Rattle.schedule_states.specs.Successors.{AreServed, HasLists, HaveMoved, IfState, IsAskingOf, IsOwnRequest, IsSettled, IsStartPart, IsSuccessor, IsTextAfter, IsTurnOf, IsUnknown, memory_held};
 ghost use Rattle.machine.specs.Histories.{text_of};
@@ -435,6 +436,14 @@ impl<'a> Parts<'a> {
         ensures below { AreBelow (length self.now.table.states) result.now }
     {
         self.lists.list(number)
+    }
+
+    /// How many bytes the states of lines and the lists hold.
+    pub fn bytes(&self) -> u128
+        ensures bytes { result ≡ line_bytes self.now.table.states + list_bytes self.now.lists }
+        ensures few { result < 2 ^ 74 }
+    {
+        self.lines.bytes() + self.lists.bytes()
     }
 
     /// The instruction that the word at `pc` spells at the start, or the trap where there is none.

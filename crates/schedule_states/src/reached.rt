@@ -1,6 +1,6 @@
 //! States that schedules lead to.
 
-ghost use Rattle.std.specs.Prelude.{◌≡◌, ◌≢◌, ◌⊎◌, ◌++◌, ◌∷◌, ◌<◌, ◌≤◌, ℕ, [], false, true, length, slice_get, slice_index_or, None, Some, IfNone, IfOk, IfSome};
+ghost use Rattle.std.specs.Prelude.{◌≡◌, ◌≢◌, ◌⊎◌, ◌++◌, ◌∷◌, ◌^◌, ◌<◌, ◌≤◌, ℕ, [], false, true, length, slice_get, slice_index_or, None, Some, IfNone, IfOk, IfSome};
 ghost use Rattle.hart.specs.declared.state.Status.TheVariants.{Running};
 ghost use Rattle.machine.specs.Run.{started};
 ghost use Rattle.schedule_states.specs.Covering.{CoversAt, IsClosedAt, IsMet, PartsEndWell};
@@ -12,6 +12,7 @@ ghost use Rattle.schedule_states.specs.Leads.{AreOfHarts};
 ghost use Rattle.schedule_states.specs.Media.{AreOnMedium};
 ghost use Rattle.schedule_states.specs.Onward.{AreAllKnown, AreTurnsFrom, AreTurnsTo, HasParts, HasPlace, IsKnownTurn, IsPlaced, IsTurnOfParts, IsTurnTo, MayHaveOneMore, only};
 ghost use Rattle.schedule_states.specs.Reaching.{AreNumbered, AreNumbersBefore, AreNumbersOf, ArePartsOf, AreThere, HaveGrown, IsFirst, IsKeptOn, WereBefore};
+ghost use Rattle.schedule_states.specs.Sizes.{reached_bytes};
 ghost use Rattle.schedule_states.specs.States.{AreLists};
 ghost use Rattle.schedule_states.specs.Successors.{HasLists};
 ghost use Rattle.schedule_states.specs.Turns.{MayClaim, MayGo, MayNotGo};
@@ -132,6 +133,16 @@ impl<'a, J: StateJudge> Reached<'a, J> {
         ensures { result ≡ length self.now.states }
     {
         self.states.as_slice().len()
+    }
+
+    /// How many bytes the tables hold, but for what is kept of the operations.
+    pub fn bytes(&self) -> u128
+        ensures bytes { result ≡ reached_bytes self.now }
+        ensures few { result < 2 ^ 75 }
+    {
+        let states = 64 * self.count() as u128;
+        let harts = 312 * self.hart_parts.count() as u128;
+        states + harts + self.parts.bytes()
     }
 
     /// The numbers of the parts of a state.

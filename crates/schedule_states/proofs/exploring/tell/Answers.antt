@@ -4,4 +4,4 @@ use Rattle.schedule_states.proofs.exploring.tell.Goals as goal
 
 pub returns : goal.returns
 returns g c first heard =
-    more c.args.watcher.now c.hear.new.self c.args.met (c.args.met - c.args.number) heard (omega arith) c.hear.ensures
+    more c.args.watcher.now c.hear.new.self c.args.met (c.args.met - c.args.number) c.args.bytes heard (omega arith) c.requires.bytes c.hear.ensures

@@ -7,7 +7,7 @@ use Rattle.command_line.proofs.progress.ReporterWatcher.hear.Goals.{else-self-vi
 
 pub returns-else-self : goal.returns-else-self
 returns-else-self g c =
-    let line = states_line c.args.met c.args.waiting in
+    let line = states_line c.args.met c.args.waiting c.args.bytes in
     let before = c.args.self.now in
     elim c.else-self.branch [
       | else-self-via-then-self+else-is_due_in_its_stride w ↦ rw w.self-is (refl, writes_none g.E.Write.contents line before.is_wanted before.errors.now)
