@@ -103,7 +103,8 @@ impl StateJudge for AtomicJudge<'_> {
         if standing.is_empty() {
             return Ok(StateVerdict::Good);
         }
-        let right = notes.known.behind(alloc, self.runs, standing)?;
+        notes.known.note(alloc, self.runs, standing)?;
+        let right = notes.known.behind(standing);
         let cuts = StateCuts::new(images);
         let judged = AnswerImages {
             images: &cuts,
