@@ -6,7 +6,6 @@ use Rattle.routine_judge.specs.Order.{AreOperations, Begun, operations_in}
 use Rattle.routine_judge.specs.declared.order.precedence.Precedence.{Precedence}
 use Rattle.routine_judge.specs.declared.order.sequential_runs.SequentialRun.{SequentialRun}
 use Rattle.routine_judge.specs.declared.right.RightAnswers.{RightAnswers}
-use Rattle.store_trace.specs.declared.event.Event.{Event}
 use Rattle.every_schedule.specs.KnownAnswers.{AreKnown, AreRight, answers_of, are_same}
 use Rattle.every_schedule.specs.declared.known_answers.KnownAnswers.{KnownAnswers}
 
