@@ -1,12 +1,11 @@
 //! A recovery routine judges the states of a search: its answer is right where it is that of a sequential run that fits.
 
+use crate::known_answers::KnownAnswers;
 use crate::sequential::Recovery;
 use crate::state_cuts::{StateCuts, verdict_of};
 use hart::Status;
 use machine::Setup;
-use routine_judge::{
-    AnswerImages, AnswersWorkspace, Precedence, RightAnswers, SequentialRuns, judge_images,
-};
+use routine_judge::{AnswerImages, AnswersWorkspace, Precedence, SequentialRuns, judge_images};
 use schedule_states::{StateImages, StateJudge, StateVerdict};
 use std::alloc::{AllocError, Global};
 use std::thread::Threads;
@@ -28,12 +27,15 @@ pub struct AtomicJudge<'a> {
 #[derive(Drop)]
 pub struct AtomicNotes {
     pub answers: AnswersWorkspace,
+    /// The right answers behind the precedences of the states that were judged.
+    pub known: KnownAnswers,
     /// Whether in one of them an operation has begun.
     pub has_begun: bool,
 }
 
 impl StateJudge for AtomicJudge<'_> {
     ghost use Rattle.every_schedule.specs.AllAnswers.{IsGoodAfter, IsReached, SomeBegins};
+    ghost use Rattle.every_schedule.specs.KnownAnswers.{AreKnown};
     ghost use Rattle.every_schedule.specs.Sequential.{program_of};
     ghost use Rattle.hart.specs.declared.state.Status.{Status};
     ghost use Rattle.routine_judge.proofs.Equal.{equal_ordered};
@@ -60,7 +62,7 @@ impl StateJudge for AtomicJudge<'_> {
     ghost demands = { λ s. s.any_end ≡ false };
 
     ghost fits = { λ s lines notes. (notes.answers.program ≡ s.recovery.program.now) × (notes.answers.lines ≡ lines)
-        × (notes.has_begun ≡ true → SomeBegins s.setup.now) };
+        × (notes.has_begun ≡ true → SomeBegins s.setup.now) × AreKnown (notes_in s.runs.now) notes.known };
 
     fn start(&self, alloc: Global) -> Result<Precedence, AllocError> {
         Ok(Precedence::none(alloc))
@@ -85,6 +87,7 @@ impl StateJudge for AtomicJudge<'_> {
     fn workspace(&self, alloc: Global, lines: u32) -> Result<AtomicNotes, AllocError> {
         Ok(AtomicNotes {
             answers: AnswersWorkspace::new(alloc, self.recovery.program, lines)?,
+            known: KnownAnswers::none(alloc),
             has_begun: false,
         })
     }
@@ -100,13 +103,14 @@ impl StateJudge for AtomicJudge<'_> {
         if standing.is_empty() {
             return Ok(StateVerdict::Good);
         }
-        let right = RightAnswers::of_fitting(alloc, self.runs, standing)?;
+        notes.known.note(alloc, self.runs, standing)?;
+        let right = notes.known.behind(standing);
         let cuts = StateCuts::new(images);
         let judged = AnswerImages {
             images: &cuts,
             program: self.recovery.program,
             steps: self.recovery.steps,
-            right: &right,
+            right,
         };
         let verdict = judge_images(rt, alloc, &judged, &mut notes.answers)?;
         notes.has_begun = true;

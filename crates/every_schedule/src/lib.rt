@@ -9,6 +9,7 @@ mod checking;
 mod follower;
 mod following;
 mod judging;
+mod known_answers;
 mod outcome;
 mod plan_judge;
 mod plan_run;
