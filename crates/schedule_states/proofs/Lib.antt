@@ -31,6 +31,7 @@ pub mod Same
 pub mod Seen
 pub mod Serving
 pub mod Showing
+pub mod Sizing
 pub mod Standing
 pub mod Starting
 pub mod Turning

@@ -55,9 +55,7 @@ returns-clause-good g c = IfOk-weaker c.judge.result _ _ (λ stop is told.
     )) c.judge.ensures.good
 
 pub numbers-numbers-requires : goal.numbers-numbers-requires
-numbers-numbers-requires g c =
-    let there : c.args.number < length c.args.reached.now.states = c.requires.happens.there in
-    search rules
+numbers-numbers-requires g c = (c.type_bounds.send-J-Standing, (c.type_bounds.send-J-Workspace, (c.type_bounds.sync-J-Standing, c.requires.happens.there)))
 
 pub judge-requires-clause-happens : goal.judge-requires-clause-happens
 judge-requires-clause-happens g c κs within =

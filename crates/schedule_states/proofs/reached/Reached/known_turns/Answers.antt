@@ -12,7 +12,7 @@ loop-hart-init g c = record { turns = λ t kept h few. absurd (omega (arith, few
 
 pub known_turn-requires-clause-lists : goal.known_turn-requires-clause-lists
 known_turn-requires-clause-lists g c κs within = lists_of_parts c.args.self.now c.args.number c.numbers-numbers.result c.in-Ok.state c.numbers-numbers.ensures.found
-    c.in_ok-state.ensures.memory c.in_ok-state.ensures.parts c.numbers-numbers.ensures.there
+    c.in-Ok.ensures.memory c.in-Ok.ensures.parts c.numbers-numbers.ensures.there
 
 pub loop-hart-preserved : goal.loop-hart-preserved
 loop-hart-preserved g c =
@@ -28,13 +28,13 @@ loop-hart-preserved g c =
 
 pub returns : goal.returns
 returns g c =
-    let well : PartsEndWell (g.J.StateJudge.ends c.args.judge.now) c.in-Ok.state.harts.items = rw c.deref.ensures.value at c.in_default.ensures in
+    let well : PartsEndWell (g.J.StateJudge.ends c.args.judge.now) c.in-Ok.state.harts.items = rw c.deref.ensures.value at c.in_default-ended_badly.ensures in
     let t : (t : _) × (slice_get c.args.self.now.standings c.numbers-numbers.result.standing ≡ Some t) =
     there_is c.args.self.now.standings c.numbers-numbers.result.standing c.numbers-numbers.ensures.there.standing in
     let end : c.loop-hart.hart ≡ c.args.self.now.harts = search rules in record {
       state = c.in-Ok.state;
       standing = t.0;
-      met = met_of_parts c.args.self.now c.args.number c.numbers-numbers.result c.in-Ok.state t.0 c.numbers-numbers.ensures.found c.in_ok-state.ensures.memory t.1 c.in_ok-state.ensures.parts;
+      met = met_of_parts c.args.self.now c.args.number c.numbers-numbers.result c.in-Ok.state t.0 c.numbers-numbers.ensures.found c.in-Ok.ensures.memory t.1 c.in-Ok.ensures.parts;
       well = well;
       turns_are = subst (λ (n : ℕ). AreTurnsTo (g.J.StateJudge.stands c.args.judge.now) (g.J.StateJudge.allows c.args.judge.now) c.args.self.now c.in-Ok.state t.0 n c.loop-hart.turns) end
           (c.loop-hart.invariant.turns t.0 t.1);

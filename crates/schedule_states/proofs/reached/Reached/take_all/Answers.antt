@@ -1,5 +1,5 @@
 use Rattle.std.proofs.Common.{◌≡◌, ◌<◌, ℕ, List, None, Some, length, slice_index_or, refl, sym, ◌∙◌, subst, arith, rules}
-use Rattle.std.proofs.lemmas.List.{get_or-replicate, get_or_default, length-set}
+use Rattle.std.proofs.lemmas.List.{get_or-replicate, length-set}
 use Rattle.std.proofs.lemmas.Option.{slice_get_within}
 use Rattle.schedule_states.proofs.Closing.{closed_at, grown_twice}
 use Rattle.schedule_states.proofs.Happening.{led_as_met}
@@ -30,12 +30,10 @@ loop-hart-init g c = record {
   long = refl;
 }
 
-pub unwrap-requires : goal.unwrap-requires
-unwrap-requires g c =
+pub unwrap-turn-requires : goal.unwrap-turn-requires
+unwrap-turn-requires g c =
     let few : c.loop-hart.hart < c.args.self.now.harts = omega (arith, c.loop-hart-test.true, c.loop-hart.invariant.harts, c.loop-hart.invariant.grown.harts) in
-    let there : c.loop-hart.hart < length c.args.turns.now = search rules in
-    let is : c.index-turns-hart.result ≡ slice_index_or c.args.turns.now c.loop-hart.hart None = c.index-turns-hart.is ∙ get_or_default c.args.turns.now c.loop-hart.hart _ None there in
-    rw is (c.requires.all c.loop-hart.hart few)
+    c.requires.all c.loop-hart.hart few
 
 pub take-requires : goal.take-requires
 take-requires g c =
@@ -44,13 +42,11 @@ take-requires g c =
     let lists : HasLists c.args.self.now.parts from.state = lists_of_met c.args.self.now c.args.number from.state from.standing from.met
     (c.are_numbered.ensures.each c.args.number from.met.numbers from.met.found) in
     let few : c.loop-hart.hart < c.args.self.now.harts = omega (arith, c.loop-hart-test.true, c.loop-hart.invariant.harts, c.loop-hart.invariant.grown.harts) in
-    let there : c.loop-hart.hart < length c.args.turns.now = search rules in
-    let is : c.index-turns-hart.result ≡ slice_index_or c.args.turns.now c.loop-hart.hart None = c.index-turns-hart.is ∙ get_or_default c.args.turns.now c.loop-hart.hart _ None there in
-    let found : slice_index_or c.args.turns.now c.loop-hart.hart None ≡ Some c.unwrap.result = sym is ∙ c.unwrap.ensures in
-    let turn : IsKnownTurn (g.J.StateJudge.stands c.args.judge.now) (g.J.StateJudge.allows c.args.judge.now) c.args.self.now from.state from.standing c.loop-hart.hart c.unwrap.result =
+    let found : slice_index_or c.args.turns.now c.loop-hart.hart None ≡ Some c.unwrap-turn.result = c.unwrap-turn.ensures in
+    let turn : IsKnownTurn (g.J.StateJudge.stands c.args.judge.now) (g.J.StateJudge.allows c.args.judge.now) c.args.self.now from.state from.standing c.loop-hart.hart c.unwrap-turn.result =
     rw found at (from.turns_are c.loop-hart.hart few) in
-    let has : HasParts c.loop-hart.self c.unwrap.result = turn_has_parts (g.J.StateJudge.stands c.args.judge.now) (g.J.StateJudge.allows c.args.judge.now) c.loop-hart.self from.state from.standing c.loop-hart.hart c.unwrap.result
-    (known_turn_kept (g.J.StateJudge.stands c.args.judge.now) (g.J.StateJudge.allows c.args.judge.now) c.args.self.now c.loop-hart.self from.state from.standing c.loop-hart.hart c.unwrap.result
+    let has : HasParts c.loop-hart.self c.unwrap-turn.result = turn_has_parts (g.J.StateJudge.stands c.args.judge.now) (g.J.StateJudge.allows c.args.judge.now) c.loop-hart.self from.state from.standing c.loop-hart.hart c.unwrap-turn.result
+    (known_turn_kept (g.J.StateJudge.stands c.args.judge.now) (g.J.StateJudge.allows c.args.judge.now) c.args.self.now c.loop-hart.self from.state from.standing c.loop-hart.hart c.unwrap-turn.result
     lists c.loop-hart.invariant.grown before turn) in
     search rules
 
@@ -61,15 +57,13 @@ loop-hart-preserved g c =
     let before : WereBefore c.args.self.now.parts c.loop-hart.self.parts = were_before_same c.args.self.now.parts c.loop-hart.self.parts c.loop-hart.invariant.parts in
     let after : WereBefore c.loop-hart.self.parts c.take.new.self.parts = were_before_same c.loop-hart.self.parts c.take.new.self.parts c.take.ensures.parts in
     let few : c.loop-hart.hart < c.args.self.now.harts = omega (arith, c.loop-hart-test.true, c.loop-hart.invariant.harts, c.loop-hart.invariant.grown.harts) in
-    let there : c.loop-hart.hart < length c.args.turns.now = search rules in
-    let is : c.index-turns-hart.result ≡ slice_index_or c.args.turns.now c.loop-hart.hart None = c.index-turns-hart.is ∙ get_or_default c.args.turns.now c.loop-hart.hart _ None there in
-    let found : slice_index_or c.args.turns.now c.loop-hart.hart None ≡ Some c.unwrap.result = sym is ∙ c.unwrap.ensures in
+    let found : slice_index_or c.args.turns.now c.loop-hart.hart None ≡ Some c.unwrap-turn.result = c.unwrap-turn.ensures in
     let lists : (from : AreTurnsFrom (g.J.StateJudge.stands c.args.judge.now) (g.J.StateJudge.allows c.args.judge.now) (g.J.StateJudge.ends c.args.judge.now) c.args.self.now c.args.number c.args.turns.now) →
     HasLists c.args.self.now.parts from.state = λ from. lists_of_met c.args.self.now c.args.number from.state from.standing from.met
     (c.are_numbered.ensures.each c.args.number from.met.numbers from.met.found) in
     let turn : (from : AreTurnsFrom (g.J.StateJudge.stands c.args.judge.now) (g.J.StateJudge.allows c.args.judge.now) (g.J.StateJudge.ends c.args.judge.now) c.args.self.now c.args.number c.args.turns.now) →
-    IsKnownTurn (g.J.StateJudge.stands c.args.judge.now) (g.J.StateJudge.allows c.args.judge.now) c.loop-hart.self from.state from.standing c.loop-hart.hart c.unwrap.result = λ from.
-    known_turn_kept (g.J.StateJudge.stands c.args.judge.now) (g.J.StateJudge.allows c.args.judge.now) c.args.self.now c.loop-hart.self from.state from.standing c.loop-hart.hart c.unwrap.result
+    IsKnownTurn (g.J.StateJudge.stands c.args.judge.now) (g.J.StateJudge.allows c.args.judge.now) c.loop-hart.self from.state from.standing c.loop-hart.hart c.unwrap-turn.result = λ from.
+    known_turn_kept (g.J.StateJudge.stands c.args.judge.now) (g.J.StateJudge.allows c.args.judge.now) c.args.self.now c.loop-hart.self from.state from.standing c.loop-hart.hart c.unwrap-turn.result
     (lists from) c.loop-hart.invariant.grown before (rw found at (from.turns_are c.loop-hart.hart few)) in
     rw c.note.ensures (record {
       grown = grown;
@@ -80,9 +74,9 @@ loop-hart-preserved g c =
           let met : IsMet c.take.new.self c.args.number from.state from.standing = met_kept c.args.self.now c.take.new.self c.args.number from.state from.standing grown from.met in
           rw c.unwrap_or.ensures (turns_more (g.J.StateJudge.stands c.args.judge.now) (g.J.StateJudge.allows c.args.judge.now) c.take.new.self from.state from.standing c.loop-hart.hart c.args.number
           c.in_ok-next.next c.loop-hart.to room met
-          (turn_taken (g.J.StateJudge.stands c.args.judge.now) (g.J.StateJudge.allows c.args.judge.now) c.take.new.self from.state from.standing c.loop-hart.hart c.unwrap.result c.in_ok-next.next
+          (turn_taken (g.J.StateJudge.stands c.args.judge.now) (g.J.StateJudge.allows c.args.judge.now) c.take.new.self from.state from.standing c.loop-hart.hart c.unwrap-turn.result c.in_ok-next.next
           c.in_ok-next.ensures.number
-          (known_turn_kept (g.J.StateJudge.stands c.args.judge.now) (g.J.StateJudge.allows c.args.judge.now) c.loop-hart.self c.take.new.self from.state from.standing c.loop-hart.hart c.unwrap.result
+          (known_turn_kept (g.J.StateJudge.stands c.args.judge.now) (g.J.StateJudge.allows c.args.judge.now) c.loop-hart.self c.take.new.self from.state from.standing c.loop-hart.hart c.unwrap-turn.result
           here c.take.ensures.grown after (turn from)))
           (turns_kept (g.J.StateJudge.stands c.args.judge.now) (g.J.StateJudge.allows c.args.judge.now) c.loop-hart.self c.take.new.self from.state from.standing c.loop-hart.hart c.loop-hart.to
           here c.take.ensures.grown after (c.loop-hart.invariant.taken from)));
@@ -92,7 +86,7 @@ loop-hart-preserved g c =
           let now = c.loop-hart.invariant.led are in
           let met : IsMet c.loop-hart.self c.args.number from.state from.standing =
           met_kept c.args.self.now c.loop-hart.self c.args.number from.state from.standing c.loop-hart.invariant.grown from.met in
-          led_taken (g.J.StateJudge.stands c.args.judge.now) (g.J.StateJudge.allows c.args.judge.now) c.loop-hart.self c.take.new.self from.state from.standing c.loop-hart.hart c.unwrap.result
+          led_taken (g.J.StateJudge.stands c.args.judge.now) (g.J.StateJudge.allows c.args.judge.now) c.loop-hart.self c.take.new.self from.state from.standing c.loop-hart.hart c.unwrap-turn.result
           c.take.ensures.grown c.take.ensures.more
           (led_as_met (g.J.StateJudge.stands c.args.judge.now) (g.J.StateJudge.allows c.args.judge.now) c.loop-hart.self c.args.number from.state from.standing met
           (now c.args.number (slice_get_within c.loop-hart.self.states c.args.number met.numbers met.found)))

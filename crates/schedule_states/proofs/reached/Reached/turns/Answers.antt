@@ -1,5 +1,5 @@
 use Rattle.std.proofs.Common.{◌≡◌, ◌<◌, ℕ, List, None, Some, length, slice_index_or, refl, sym, ◌∙◌, subst, arith, rules}
-use Rattle.std.proofs.lemmas.List.{get_or_default, length-set}
+use Rattle.std.proofs.lemmas.List.{length-set}
 use Rattle.schedule_states.proofs.Closing.{before_twice, grown_twice}
 use Rattle.schedule_states.proofs.Looking.{within_kept}
 use Rattle.schedule_states.proofs.Numbering.{lists_kept, parts_kept}
@@ -46,11 +46,9 @@ turn_or-requires-clause-claims g c κs within = subst (λ (claims : List Claimed
 pub turn_or-requires-clause-known : goal.turn_or-requires-clause-known
 turn_or-requires-clause-known g c κs within =
     let few : c.loop-hart.hart < c.args.self.now.harts = omega (arith, c.loop-hart-test.true, c.loop-hart.invariant.harts, c.loop-hart.invariant.grown.harts) in
-    let there : c.loop-hart.hart < length c.args.known.now = search rules in
-    let is : c.index-known-hart.result ≡ slice_index_or c.args.known.now c.loop-hart.hart None = c.index-known-hart.is ∙ get_or_default c.args.known.now c.loop-hart.hart _ None there in
-    rw is (some_as_kept (g.J.StateJudge.stands c.args.judge.now) (g.J.StateJudge.allows c.args.judge.now) c.args.self.now c.loop-hart.self c.args.from.state.now c.args.from.numbers.now.standing
+    some_as_kept (g.J.StateJudge.stands c.args.judge.now) (g.J.StateJudge.allows c.args.judge.now) c.args.self.now c.loop-hart.self c.args.from.state.now c.args.from.numbers.now.standing
     c.loop-hart.hart (slice_index_or c.args.known.now c.loop-hart.hart None) c.requires.standing c.requires.parts.1 c.loop-hart.invariant.grown c.loop-hart.invariant.before
-    (λ t kept. c.requires.known t kept c.loop-hart.hart few))
+    (λ t kept. c.requires.known t kept c.loop-hart.hart few)
 
 pub returns-in_err-turn-clause-grown : goal.returns-in_err-turn-clause-grown
 returns-in_err-turn-clause-grown g c = (
