@@ -1,4 +1,4 @@
-use Rattle.std.proofs.Common.{◌≡◌, ◌<◌, ◌+◌, length, ap, sym, ◌∙◌, arith}
+use Rattle.std.proofs.Common.{◌≡◌, ◌<◌, ◌+◌, length, ap, sym, ◌∙◌, arith, rules}
 use Rattle.std.proofs.lemmas.Result.{IfOk-weaker}
 use Rattle.schedule_states.proofs.Sizing.{sum_grown}
 use Rattle.schedule_states.specs.Sizes.{others_in}
@@ -10,12 +10,13 @@ invariant_of-self c =
     let more : length c.self.inside.states < length c.number_of-number.new.self = omega (arith, c.if-count-known.true, c.count-known.ensures, c.count.ensures) in
     let sum : others_in c.number_of-number.new.self ≡ others_in c.self.inside.states + length c.args.state.others.items =
     sum_grown (λ (state : LineState). length state.others.items) c.self.inside.states c.number_of-number.new.self c.args.state c.number_of-number.ensures.appended more in
-    c.in_ok-others.ensures ∙ ap (λ (n : _). n + c.len.result) c.self.invariant ∙ ap (λ (n : _). others_in c.self.inside.states + n) c.len.ensures ∙ sym sum
+    let same : c.in_ok-others.others ≡ c.self.inside.others + length c.args.state.others.items = search rules in
+    same ∙ ap (λ (n : _). n + length c.args.state.others.items) c.self.invariant ∙ sym sum
 
 pub returns-then-count-known-clause-number : goal.returns-then-count-known-clause-number
 returns-then-count-known-clause-number c = IfOk-weaker c.number_of-number.result _ _
-    (λ number has. (has.found, (has.here, c.equal_lines_are_same.ensures c.args.state has.found has.equal))) c.number_of-number.ensures.number
+    (λ number has. (has.found, has.here, c.equal_lines_are_same.ensures c.args.state has.found has.equal)) c.number_of-number.ensures.number
 
 pub returns-else-count-known-clause-number : goal.returns-else-count-known-clause-number
 returns-else-count-known-clause-number c = IfOk-weaker c.number_of-number.result _ _
-    (λ number has. (has.found, (has.here, c.equal_lines_are_same.ensures c.args.state has.found has.equal))) c.number_of-number.ensures.number
+    (λ number has. (has.found, has.here, c.equal_lines_are_same.ensures c.args.state has.found has.equal)) c.number_of-number.ensures.number

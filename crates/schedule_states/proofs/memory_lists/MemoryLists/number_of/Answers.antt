@@ -1,4 +1,4 @@
-use Rattle.std.proofs.Common.{◌≡◌, ◌<◌, ◌+◌, Some, List, length, map, option_map, ap, sym, ◌∙◌, arith}
+use Rattle.std.proofs.Common.{◌≡◌, ◌<◌, ◌+◌, Some, List, length, map, option_map, ap, sym, ◌∙◌, arith, rules}
 use Rattle.std.proofs.lemmas.Option.{slice_get-map}
 use Rattle.std.proofs.lemmas.Result.{IfOk-weaker}
 use Rattle.std.specs.Global.{Vec}
@@ -14,8 +14,8 @@ invariant_of-self c =
     let sum : sum_by length (map (λ (list : Vec HeldLine). list.items) c.number_of-number.new.self)
     ≡ sum_by length (map (λ (list : Vec HeldLine). list.items) c.self.inside.lists) + length c.args.list.items =
     seen_sum_grown (λ (list : Vec HeldLine). list.items) length c.self.inside.lists c.number_of-number.new.self c.args.list c.number_of-number.ensures.appended more in
-    c.in_ok-lines.ensures ∙ ap (λ (n : _). n + c.len.result) c.self.invariant
-    ∙ ap (λ (n : _). sum_by length (map (λ (list : Vec HeldLine). list.items) c.self.inside.lists) + n) c.len.ensures ∙ sym sum
+    let same : c.in_ok-lines.lines ≡ c.self.inside.lines + length c.args.list.items = search rules in
+    same ∙ ap (λ (n : _). n + length c.args.list.items) c.self.invariant ∙ sym sum
 
 pub returns-then-count-known-clause-kept : goal.returns-then-count-known-clause-kept
 returns-then-count-known-clause-kept c =
