@@ -66,7 +66,7 @@ told_entry a b e =
     (and_both (beq a.ended b.ended) (pointwise nat_eq a.earlier.items b.earlier.items) (bool_one a.ended b.ended (ap (λ (x : Begun). x.has_ended) e))
     ((pointwise_decides unsigned_Decides a.earlier.items b.earlier.items).1 (ap (λ (x : Begun). x.earlier) e))))
 
-entries_told : (xs ys : List Entry) → pointwise same_entry xs ys ≡ true → map begun_of xs ≡ map begun_of ys
+pub entries_told : (xs ys : List Entry) → pointwise same_entry xs ys ≡ true → map begun_of xs ≡ map begun_of ys
 entries_told [] [] e = refl
 entries_told [] (y ∷ ys) e = absurd cc
 entries_told (x ∷ xs) [] e = absurd cc
@@ -77,7 +77,7 @@ entries_told (x ∷ xs) (y ∷ ys) e =
 first_begun : (a b : Begun) (ops bs : List Begun) → a ∷ ops ≡ b ∷ bs → (a ≡ b) × (ops ≡ bs)
 first_begun a b ops bs e = (cc, cc)
 
-told_entries : (xs ys : List Entry) → map begun_of xs ≡ map begun_of ys → pointwise same_entry xs ys ≡ true
+pub told_entries : (xs ys : List Entry) → map begun_of xs ≡ map begun_of ys → pointwise same_entry xs ys ≡ true
 told_entries [] [] e = refl
 told_entries [] (y ∷ ys) e = absurd cc
 told_entries (x ∷ xs) [] e = absurd cc

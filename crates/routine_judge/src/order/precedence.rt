@@ -2,7 +2,7 @@
 
 ghost use Rattle.routine_judge.specs.Order.{AreInOrder, AreOperations, AreOrdered, HasHartFault, IsLowestHartFault, begins_in, begun_of, operations_in};
 ghost use Rattle.routine_judge.specs.declared.history.fault.MarkFault.{MarkFault as AFault};
-ghost use Rattle.std.specs.Prelude.{◌≡◌, ◌↔◌, ℕ, List, [], ◌∷◌, ◌++◌, Contains, IfErr, IfOk, IsPermutation, IsTrue, MatchOption, OnOk, map};
+ghost use Rattle.std.specs.Prelude.{◌≡◌, ◌↔◌, ℕ, List, true, [], ◌∷◌, ◌++◌, Contains, IfErr, IfOk, IsPermutation, IsTrue, MatchOption, OnOk, map};
 ghost use Rattle.store_trace.specs.Marks.{begun};
 ghost use Rattle.store_trace.specs.declared.event.Event.{Event as AnEvent};
 
@@ -28,6 +28,14 @@ impl Precedence {
         Precedence {
             entries: Vec::new(alloc),
         }
+    }
+
+    /// Another that is the same.
+    pub fn copied(&self, alloc: Global) -> Result<Precedence, AllocError>
+        ensures { IfOk result (λ copy. ⟦<Precedence as PartialEq>⟧.eq copy self.now ≡ true) }
+    {
+        let entries = copies(alloc, &self.entries)?;
+        Ok(Precedence { entries })
     }
 
     /// Whether no operation has begun.
