@@ -14,7 +14,7 @@ use Rattle.nova_log.specs.declared.volume.entry.Entry.{Entry}
 use Rattle.store_trace.proofs.Images.{length_image}
 use Rattle.store_trace.specs.History.{at_moment}
 use Rattle.store_trace.specs.declared.event.Event.{Event}
-use Rattle.store_trace.specs.declared.event.Event.TheVariants.{Store}
+use Rattle.store_trace.specs.declared.event.Event.TheVariants.{Store, Clean, Fence, Begin, End}
 use Rattle.verdict.proofs.Keeping.{like_next}
 use Rattle.verdict.specs.CutImages.{image_at}
 use Rattle.verdict.specs.Keeping.{IsUnseen}
@@ -90,11 +90,12 @@ other_flagged (suc n) (suc line) zero less apart = refl
 other_flagged (suc n) (suc line) (suc l) less apart = other_flagged n line l (omega (arith, less)) (λ e. apart (ap suc e))
 
 -- behind a store what no reading has of its line is kept
-pub kept_store : (start : List (List ℕ)) (events : List Event) (i hart line offset width value : ℕ) (d : Event) (old new : KeptVolume) → i < length events →
-    get_or events i d ≡ Store hart line offset width value →
+pub kept_store : (start : List (List ℕ)) (all events : List Event) (i hart line offset width value : ℕ) (d : Event) (old new : KeptVolume) → all ≡ events → i < length events →
+    get_or all i d ≡ Store hart line offset width value →
     ((medium other : List (List ℕ)) → DifferAt line medium other → AreKept medium old → AreKept other new) →
     AreKeptAt start events i old → AreKeptAt start events (i + 1) new
-kept_store start events i hart line offset width value d old new there is leaves kept =
+kept_store start all events i hart line offset width value d old new same there event leaves kept =
+    let is = subst (λ (es : List Event). get_or es i d ≡ Store hart line offset width value) same event in
     let flags : List Bool = others (length start) line in
     let unseen : IsUnseen flags (get_or events i d) = subst (λ (e : Event). IsUnseen flags e) (sym is) (other_unflagged (length start) line) in
     let like = like_next start events i d flags there unseen in
@@ -109,12 +110,21 @@ kept_store start events i hart line offset width value d old new there is leaves
         } in
         leaves before after differ (kept (like.of k) one.within)
 
+-- an event that is no store changes no line
+pub unseen_other : (event : Event) → ((h l o w v : ℕ) → event ≡ Store h l o w v → ⊥) → (flags : List Bool) → IsUnseen flags event
+unseen_other (Store hart line offset width value) other flags = absurd (other hart line offset width value refl)
+unseen_other (Clean hart line) other flags = tt
+unseen_other (Fence hart) other flags = tt
+unseen_other (Begin hart op) other flags = tt
+unseen_other (End hart op) other flags = tt
+
 -- behind any other event all is kept
-pub kept_still : (start : List (List ℕ)) (events : List Event) (i : ℕ) (d : Event) (kept : KeptVolume) → i < length events →
-    ((flags : List Bool) → IsUnseen flags (get_or events i d)) → AreKeptAt start events i kept → AreKeptAt start events (i + 1) kept
-kept_still start events i d volume there unseen kept =
+pub kept_still : (start : List (List ℕ)) (all events : List Event) (i : ℕ) (d : Event) (kept : KeptVolume) → all ≡ events → i < length events →
+    ((h l o w v : ℕ) → get_or all i d ≡ Store h l o w v → ⊥) → AreKeptAt start events i kept → AreKeptAt start events (i + 1) kept
+kept_still start all events i d volume same there other kept =
     let flags : List Bool = replicate (length start) true in
-    let like = like_next start events i d flags there (unseen flags) in
+    let unseen = subst (λ (es : List Event). IsUnseen flags (get_or es i d)) same (unseen_other (get_or all i d) other flags) in
+    let like = like_next start events i d flags there unseen in
     λ k within n e inside.
         let one = like.each k within in
         let before : List (List ℕ) = image_at start events i (like.of k) in

@@ -43,9 +43,7 @@ impl Workspace {
     {
         for n in 0..self.kept.readings.len() {
             let reading = &mut self.kept.readings[n];
-            if reading.is_kept && !is_without(&reading.lines, line) {
-                reading.is_kept = false;
-            }
+            reading.is_kept = reading.is_kept && is_without(&reading.lines, line);
         }
     }
 

@@ -51,3 +51,21 @@ returns-clause-ok g c =
     c.args.standing.now.moment cuts.moment c.in_ok-verdict.verdict (ap (λ (v : IndexView). v.start) made.index ∙ c.run.invariant.3)
     (ap (λ (v : IndexView). v.events) made.index ∙ c.run.invariant.4) made.moment are
     (sound_apart run.plan.now.operations run.trace.now.events c.args.standing.now.moment there c.run.invariant.1) c.in_ok-verdict.ensures.ok)
+
+pub returns-in_err-verdict-clause-kept : goal.returns-in_err-verdict-clause-kept
+returns-in_err-verdict-clause-kept g c =
+    let made = c.new-cuts.ensures in
+    let run = c.run.inside in
+    let standing = c.args.standing.now in
+    kept_as c.new-cuts.result.index.now.start c.args.run.now.start c.new-cuts.result.index.now.events c.args.run.now.events c.new-cuts.result.moment standing.moment c.open_moment.new.workspace.kept
+    (sym (ap (λ (v : IndexView). v.start) made.index ∙ c.run.invariant.3 ∙ ap (λ (v : RunView). v.start) c.run.view_is))
+    (sym (ap (λ (v : IndexView). v.events) made.index ∙ c.run.invariant.4 ∙ ap (λ (v : RunView). v.events) c.run.view_is)) (sym made.moment) c.open_moment.ensures.fits
+
+pub returns-clause-kept : goal.returns-clause-kept
+returns-clause-kept g c =
+    let made = c.new-cuts.ensures in
+    let run = c.run.inside in
+    let standing = c.args.standing.now in
+    kept_as c.new-cuts.result.index.now.start c.args.run.now.start c.new-cuts.result.index.now.events c.args.run.now.events c.new-cuts.result.moment standing.moment c.open_moment.new.workspace.kept
+    (sym (ap (λ (v : IndexView). v.start) made.index ∙ c.run.invariant.3 ∙ ap (λ (v : RunView). v.start) c.run.view_is))
+    (sym (ap (λ (v : IndexView). v.events) made.index ∙ c.run.invariant.4 ∙ ap (λ (v : RunView). v.events) c.run.view_is)) (sym made.moment) c.open_moment.ensures.fits
