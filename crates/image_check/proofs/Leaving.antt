@@ -100,15 +100,15 @@ kept_store start all events i hart line offset width value d old new same there 
     let unseen : IsUnseen flags (get_or events i d) = subst (λ (e : Event). IsUnseen flags e) (sym is) (other_unflagged (length start) line) in
     let like = like_next start events i d flags there unseen in
     λ k within.
-        let one = like.each k within in
-        let before : List (List ℕ) = image_at start events i (like.of k) in
-        let after : List (List ℕ) = image_at start events (i + 1) k in
-        let size : length before ≡ length start = length_image start (like.of k) (at_moment events i) in
-        let differ : DifferAt line before after = record {
-          size = length_image start k (at_moment events (i + 1)) ∙ sym size;
-          lines = λ l h. one.line l (other_flagged (length start) line l (omega (arith, h.0, size)) h.1);
-        } in
-        leaves before after differ (kept (like.of k) one.within)
+    let one = like.each k within in
+    let before : List (List ℕ) = image_at start events i (like.of k) in
+    let after : List (List ℕ) = image_at start events (i + 1) k in
+    let size : length before ≡ length start = length_image start (like.of k) (at_moment events i) in
+    let differ : DifferAt line before after = record {
+      size = length_image start k (at_moment events (i + 1)) ∙ sym size;
+      lines = λ l h. one.line l (other_flagged (length start) line l (omega (arith, h.0, size)) h.1);
+    } in
+    leaves before after differ (kept (like.of k) one.within)
 
 -- an event that is no store changes no line
 pub unseen_other : (event : Event) → ((h l o w v : ℕ) → event ≡ Store h l o w v → ⊥) → (flags : List Bool) → IsUnseen flags event
@@ -126,15 +126,15 @@ kept_still start all events i d volume same there other kept =
     let unseen = subst (λ (es : List Event). IsUnseen flags (get_or es i d)) same (unseen_other (get_or all i d) other flags) in
     let like = like_next start events i d flags there unseen in
     λ k within n e inside.
-        let one = like.each k within in
-        let before : List (List ℕ) = image_at start events i (like.of k) in
-        let after : List (List ℕ) = image_at start events (i + 1) k in
-        let size : length before ≡ length start = length_image start (like.of k) (at_moment events i) in
-        let alike : AreAlikeAt (λ l. l < length before) before after = record {
-          size = length_image start k (at_moment events (i + 1)) ∙ sym size;
-          lines = λ l h. one.line l (get_or-replicate (length start) l true false (omega (arith, h, size)));
-        } in
-        same_on before after volume.geometry (get_or volume.readings.items n e) (log_of volume.volume n) alike (kept (like.of k) one.within n e inside)
+    let one = like.each k within in
+    let before : List (List ℕ) = image_at start events i (like.of k) in
+    let after : List (List ℕ) = image_at start events (i + 1) k in
+    let size : length before ≡ length start = length_image start (like.of k) (at_moment events i) in
+    let alike : AreAlikeAt (λ l. l < length before) before after = record {
+      size = length_image start k (at_moment events (i + 1)) ∙ sym size;
+      lines = λ l h. one.line l (get_or-replicate (length start) l true false (omega (arith, h, size)));
+    } in
+    same_on before after volume.geometry (get_or volume.readings.items n e) (log_of volume.volume n) alike (kept (like.of k) one.within n e inside)
 
 -- the same of a moment by other names
 pub kept_as : (start medium : List (List ℕ)) (events all : List Event) (moment m : ℕ) (kept : KeptVolume) → medium ≡ start → all ≡ events → m ≡ moment →

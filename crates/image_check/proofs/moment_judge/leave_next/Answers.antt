@@ -5,7 +5,7 @@ use Rattle.image_check.proofs.moment_judge.leave_next.Goals as goal
 
 pub returns-in-Store : goal.returns-in-Store
 returns-in-Store c = λ start kept.
-    kept_store start c.events.result.now c.args.trace.now.events c.args.moment _ _ _ _ _ (Store 0 0 0 0 0) c.args.workspace.now.kept c.leave.new.workspace.kept
+    kept_store start c.events.result.now c.args.trace.now.events c.args.moment _ _ _ _ _ (Store 0 0 0 0 0) c.args.workspace.now.kept c.leave.new.self.kept
     c.events.ensures.value c.requires c.in-Store.is c.leave.ensures kept
 
 pub returns-in_default : goal.returns-in_default

@@ -28,7 +28,7 @@ loop-n-preserved c =
       | then-reading w ↦ λ is.
           let lines : w.deref.result.now ≡ reading.lines.items = cc in
           (w.if-reading.true, subst (λ (xs : List ℕ). AllByRecursion (λ l. l ≢ c.args.line) xs) lines (w.is_without-reading.ensures (sym w.reading-is ∙ is)))
-      | else-reading w ↦ λ is. absurd (true≢false (sym is ∙ w.reading-is))
+      | else-reading w ↦ λ is. absurd (true≢false (sym is ∙ w.reading-is ∙ w.if-reading.false))
     ] in
     record {
       geometry = before.geometry;
