@@ -29,7 +29,8 @@ returns-clause-standing g c =
       kept = subst (λ (m : ℕ). AreKeptAt run.start run.events m new.workspace.kept) moment c.open_at.ensures.kept;
       passed = λ is.
           let pass : c.in_ok-verdict.verdict ≡ moments.Pass = c.is_pass-self.ensures.0 is in
-          subst (λ (m : ℕ). AreFlagged run.start (at_moment run.events m) flags × IsMomentVerdict run.plan run.start (take m run.events) moments.Pass) moment
-          (subst (λ (v : MomentVerdict Cause). IfPassed v (AreFlagged run.start (at_moment run.events old.moment) flags)) pass c.in_ok-verdict.ensures.asked,
-          subst (λ (v : MomentVerdict Cause). IsMomentVerdict run.plan run.start (take old.moment run.events) v) pass c.in_ok-verdict.ensures.ok);
+          subst (λ (m : ℕ). AreFlagged run.start (at_moment run.events m) flags × IsMomentVerdict run.plan run.start (take m run.events) moments.Pass) moment (
+            subst (λ (v : MomentVerdict Cause). IfPassed v (AreFlagged run.start (at_moment run.events old.moment) flags)) pass c.in_ok-verdict.ensures.asked,
+            subst (λ (v : MomentVerdict Cause). IsMomentVerdict run.plan run.start (take old.moment run.events) v) pass c.in_ok-verdict.ensures.ok,
+          );
     }
