@@ -9,6 +9,7 @@ pub mod Growing
 pub mod Judging
 pub mod Keeping
 pub mod Lasting
+pub mod Leaving
 pub mod Looping
 pub mod Noting
 pub mod Opening

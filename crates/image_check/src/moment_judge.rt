@@ -1,6 +1,7 @@
 //! Judging the moments of a run one by one, by one judge or by several that share the run.
 
 ghost use Rattle.crash_image.specs.View.{HasLines};
+ghost use Rattle.image_check.specs.Branching.{AreKeptAt};
 ghost use Rattle.image_check.specs.Growth.{AreOutcomes};
 ghost use Rattle.image_check.specs.Keeping.{KeepsPass};
 ghost use Rattle.image_check.specs.OrderFaults.{AreSound};
@@ -10,7 +11,7 @@ ghost use Rattle.verdict.specs.Verdicts.{IfPassed};
 ghost use Rattle.nova_log.specs.Volumes.{volume_of};
 ghost use Rattle.store_trace.specs.History.{at_moment};
 ghost use Rattle.store_trace.specs.declared.event.Event.{Event as AnEvent};
-ghost use Rattle.std.specs.Prelude.{◌≡◌, ◌↔◌, ◌+◌, ◌^◌, ◌<◌, ◌≤◌, length, slice_index_or, take, IfErr, IfOk, IfSome, IsTrue, OnOk};
+ghost use Rattle.std.specs.Prelude.{◌≡◌, ◌↔◌, ◌+◌, ◌^◌, ◌<◌, ◌≤◌, ℕ, List, length, slice_index_or, take, IfErr, IfOk, IfSome, IsTrue, OnOk};
 ghost use Rattle.std.specs.Result.{result_ok};
 
 use crate::judge::{note_next, starting_volume};
@@ -185,6 +186,8 @@ pub struct Standing {
     pub outcomes: Outcomes,
     /// Whether the moment is known to pass; the lines that recovery asks there are then in the judge's opener.
     pub passes: bool,
+    /// What runs of recovery work in: logs by lines that no event changes are kept from one moment to the next.
+    pub workspace: Workspace,
 }
 
 impl Standing {
@@ -198,6 +201,7 @@ impl Standing {
             moment: 0,
             outcomes: Outcomes::new(alloc, before),
             passes: false,
+            workspace: Workspace::new(alloc),
         })
     }
 
@@ -210,6 +214,7 @@ impl Standing {
         ensures moment { OnOk result (self.new.moment ≡ self.old.moment + 1) }
     {
         let passes = still_passes(self.passes, run.trace, self.moment, opener);
+        leave_next(&mut self.workspace, run.trace, self.moment);
         note_next(&mut self.outcomes, run.plan, run.trace, self.moment)?;
         self.passes = passes;
         self.moment += 1;
@@ -248,47 +253,58 @@ impl Standing {
         if self.passes {
             return Ok(MomentVerdict::Pass);
         }
-        let verdict = open_at(rt, alloc, run, self.moment, &self.outcomes, opener)?;
+        let verdict = open_at(rt, alloc, run, self, opener)?;
         self.passes = verdict.is_pass();
         Ok(verdict)
     }
 }
 
-/// Opens the branches of a moment of the run, whose legal volumes are made of these.
+/// Opens the branches of the moment of the run at which it stands.
 fn open_at<T: Threads + Sync>(
     rt: &T,
     alloc: Global,
     run: &SoundRun,
-    moment: u32,
-    outcomes: &Outcomes,
+    standing: &mut Standing,
     opener: &mut Opener,
 ) -> Result<MomentVerdict<Cause>, AllocError>
-    requires there { moment ≤ length run.now.events }
-    requires outcomes { AreOutcomes run.now.plan (result_ok (volume_of run.now.start)) (take moment run.now.events) outcomes.now.settled outcomes.now.under_way.items }
+    requires standing { IsStanding run.now opener.old standing.old }
     requires size { length opener.old ≡ length run.now.start }
-    ensures ok { IfOk result (λ verdict. IsMomentVerdict run.now.plan run.now.start (take moment run.now.events) verdict) }
-    ensures asked { IfOk result (λ verdict. IfPassed verdict (AreFlagged run.now.start (at_moment run.now.events moment) opener.new)) }
+    ensures ok { IfOk result (λ verdict. IsMomentVerdict run.now.plan run.now.start (take standing.old.moment run.now.events) verdict) }
+    ensures asked { IfOk result (λ verdict. IfPassed verdict (AreFlagged run.now.start (at_moment run.now.events standing.old.moment) opener.new)) }
     ensures size { length opener.new ≡ length opener.old }
+    ensures moment { standing.new.moment ≡ standing.old.moment }
+    ensures outcomes { standing.new.outcomes ≡ standing.old.outcomes }
+    ensures kept { AreKeptAt run.now.start run.now.events standing.old.moment standing.new.workspace.kept }
 {
     let (medium, trace) = (run.medium, run.trace);
-    let cuts = MomentCuts::new(&run.index, moment);
+    let cuts = MomentCuts::new(&run.index, standing.moment);
     let images = PlanImages {
         images: &cuts,
         plan: run.plan,
-        outcomes,
+        outcomes: &standing.outcomes,
     };
-    let mut workspace = Workspace::new(alloc);
     let verdict = open_moment(
         rt,
         alloc,
         medium,
         trace,
-        moment,
+        standing.moment,
         &images,
-        &mut workspace,
+        &mut standing.workspace,
         opener,
     )?;
     Ok(verdict)
+}
+
+/// Makes the workspace, which is one for the images of a moment, one for those of the next.
+fn leave_next(workspace: &mut Workspace, trace: &Trace, moment: u32)
+    requires { moment < length trace.now.events }
+    ensures { (start : List (List ℕ)) → AreKeptAt start trace.now.events moment workspace.old.kept →
+        AreKeptAt start trace.now.events (moment + 1) workspace.new.kept }
+{
+    if let Event::Store { line, .. } = trace.events()[moment as usize] {
+        workspace.leave(line);
+    }
 }
 
 /// Whether a moment that is known to pass or not is known to pass still after its next event.

@@ -1,12 +1,12 @@
 //! The images of a source as a plan judges them, while the branches of their cuts are opened: one run of recovery judges a branch.
 
-ghost use Rattle.image_check.specs.Branching.{AreKeptWithin};
+ghost use Rattle.image_check.specs.Branching.{AreKeptWithin, DifferAt};
 ghost use Rattle.image_check.specs.Verdicts.{are_asked, whole_line};
 ghost use Rattle.nova_log.specs.declared.fault.VolumeFault.TheVariants.{Memory};
 ghost use Rattle.nova_log.specs.Kept.{AreKept};
 ghost use Rattle.nova_log.specs.Volumes.{volume_of};
 ghost use Rattle.std.specs.List.{AllByRecursion};
-ghost use Rattle.std.specs.Prelude.{◌≡◌, ◌<◌, ◌⊎◌, ◌++◌, ℕ, [], List, Err, Ok, map, IfErr, OnOk};
+ghost use Rattle.std.specs.Prelude.{◌≡◌, ◌≢◌, ◌<◌, ◌⊎◌, ◌++◌, ℕ, [], List, Err, Ok, map, IfErr, IsTrue, OnOk};
 ghost use Rattle.verdict.specs.CutImages.{AreNumbers};
 ghost use Rattle.verdict.specs.Numbers.{number_over};
 
@@ -37,6 +37,16 @@ impl Workspace {
         }
     }
 
+    /// Makes it one for images that may differ from those so far in this line: no log is kept any more that was read by it.
+    pub fn leave(&mut self, line: u32)
+        ensures { (medium other : List (List ℕ)) → DifferAt line medium other → AreKept medium self.old.kept → AreKept other self.new.kept }
+    {
+        for n in 0..self.kept.readings.len() {
+            let reading = &mut self.kept.readings[n];
+            reading.is_kept = reading.is_kept && is_without(&reading.lines, line);
+        }
+    }
+
     /// Makes it one for the images of any source again: no log is kept any more. Its memory stays.
     pub fn forget(&mut self)
         ensures { (medium : List (List ℕ)) → AreKept medium self.new.kept }
@@ -46,6 +56,18 @@ impl Workspace {
             reading.was_read = false;
         }
     }
+}
+
+/// Whether this line isn't among them.
+fn is_without(lines: &[u32], line: u32) -> bool
+    ensures { IsTrue result → AllByRecursion (λ l. l ≢ line) lines.now }
+{
+    for one in lines {
+        if *one == line {
+            return false;
+        }
+    }
+    true
 }
 
 /// Images, and what the legal volumes are made of where they come from.

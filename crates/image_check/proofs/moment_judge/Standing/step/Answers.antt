@@ -4,6 +4,7 @@ use Rattle.std.specs.Result.{result_ok}
 use Rattle.nova_log.specs.Volumes.{volume_of}
 use Rattle.store_trace.specs.declared.event.Event.TheVariants.{Fence}
 use Rattle.nova_log.specs.declared.volume.entry.Entry.{Entry}
+use Rattle.image_check.specs.Branching.{AreKeptAt}
 use Rattle.image_check.specs.Growth.{AreOutcomes}
 use Rattle.image_check.specs.Keeping.{KeepsPass}
 use Rattle.image_check.specs.OrderFaults.{AreSound}
@@ -26,6 +27,8 @@ returns-clause-standing c =
     record {
       there = omega arith;
       outcomes_are = noted (result_ok (volume_of run.start)) c.requires.standing.outcomes_are;
+      kept = subst (λ (v : RunView). AreKeptAt run.start v.events old.moment old.workspace.kept → AreKeptAt run.start v.events (old.moment + 1) c.leave_next.new.workspace.kept) c.run.view_is
+          (c.leave_next.ensures run.start) c.requires.standing.kept;
       passed = λ is.
           let still = c.still_passes-passes.ensures is in
           passed_next run c.args.opener.now old (Fence 0) c.requires.there sound c.requires.standing still.0
