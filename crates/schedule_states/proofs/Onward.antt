@@ -1,6 +1,6 @@
 -- The turns of harts, before the states to which they lead have numbers.
 use Rattle.std.proofs.Common.{◌≡◌, ◌⊎◌, inl, inr, ℕ, zero, suc, ◌+◌, ◌<◌, ◌≤◌, List, [], ◌∷◌, ◌++◌, Option, Some, None, length, slice_get, slice_index_or, slice_set, refl, sym, ap, ◌∙◌, subst, arith}
-use Rattle.std.specs.Prelude.{IfSome, IsSome}
+use Rattle.std.specs.Prelude.{IfOk, IfSome, IsSome, Ok, Result}
 use Rattle.std.proofs.lemmas.Bool.{cases_eq}
 use Rattle.std.proofs.lemmas.Option.{same_Some, slice_get_within}
 use Rattle.bus.proofs.Places.{read_else, read_set, there_is}
@@ -302,6 +302,11 @@ known_of_same stands allows r n s u t v h (to.Parts numbers) met other is = reco
   );
   led = λ led. is.led (record { end = led.end; led = led.led; stands_as = same_stands stands r n s u t v led.end met other led.stands_as });
 }
+
+pub both_ok : {A E F : Type 0} (P : A → Type 0) (found : Result (Result A E) F) (looked : Result A E) (next : A) → found ≡ Ok looked → looked ≡ Ok next →
+    IfOk found (λ one. IfOk one P) → P next
+both_ok {A} {E} {F} P found looked next outer inner is =
+    subst (λ (one : Result A E). IfOk one P) inner (subst (λ (all : Result (Result A E) F). IfOk all (λ one. IfOk one P)) outer is)
 
 pub some_then : {A : Type 0} (P Q : A → Type 0) (found : Option A) → ((x : A) → P x → Q x) → IfSome found P → IfSome found Q
 some_then P Q (Some x) then is = then x is

@@ -20,7 +20,7 @@ ghost use Rattle.word_bits.specs.Bytes.{stored};
 use crate::held_lines::{HeldLine, with_state, without};
 use crate::laws::equal_lines_are_same;
 use crate::line_state::LineState;
-use crate::numbers::{Numbers, grown};
+use crate::numbers::{Numbers, grown, wide};
 use crate::request::written;
 use crate::start_lines::StartLines;
 use crate::state_memory::StateMemory;
@@ -289,7 +289,7 @@ impl<'a> LineTable<'a> {
         ensures bytes { result ≡ line_bytes self.now.states }
         ensures few { result < 2 ^ 73 }
     {
-        120 * self.states.count() as u128 + 72 * u128::from(self.others)
+        120 * self.states.count() as u128 + 72 * wide(self.others)
     }
 
     /// Whether a line that has this state is as it was at the start.

@@ -6,7 +6,7 @@ ghost use Rattle.schedule_states.specs.Sizes.{list_bytes};
 
 use crate::held_lines::HeldLine;
 use crate::laws::equal_lists_are_same;
-use crate::numbers::{Numbers, grown};
+use crate::numbers::{Numbers, grown, wide};
 use std::alloc::{AllocError, Global};
 use std::marker::Model;
 
@@ -87,6 +87,6 @@ impl<'a> MemoryLists<'a> {
         ensures bytes { result ≡ list_bytes self.now }
         ensures few { result < 2 ^ 72 }
     {
-        56 * self.lists.count() as u128 + 8 * u128::from(self.lines)
+        56 * self.lists.count() as u128 + 8 * wide(self.lines)
     }
 }

@@ -89,7 +89,9 @@ pub fn judge_state<T: Threads + Sync, J: StateJudge>(
     ensures ways { judged.new.ways ≡ judged.old.ways }
     ensures limits { judged.new.limits ≡ judged.old.limits }
 {
-    let numbers = reached.numbers(number);
+    let Some(numbers) = reached.find(number) else {
+        unreachable!();
+    };
     let alloc = judged.alloc;
     let memory = judged
         .media

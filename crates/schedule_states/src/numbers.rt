@@ -1,6 +1,6 @@
 //! Values, each once, by its number.
 
-ghost use Rattle.std.specs.Prelude.{◌≡◌, ◌⊎◌, ◌+◌, ◌++◌, ◌∷◌, [], length, IfOk, IfSome};
+ghost use Rattle.std.specs.Prelude.{◌^◌, ◌<◌, ◌≡◌, ◌⊎◌, ◌+◌, ◌++◌, ◌∷◌, [], length, IfOk, IfSome};
 ghost use Rattle.schedule_states.specs.Numbers.{AreKept, HasNumber, values_in};
 
 use indexmap::IndexSet;
@@ -115,6 +115,14 @@ fn number_in<T: Eq + Hash>(values: &IndexSet<T>, value: &T) -> Option<usize>
 {
     let (number, found) = values.get_full(value)?;
     if *value == *found { Some(number) } else { None }
+}
+
+/// A number, as a wider one.
+pub fn wide(number: u64) -> u128
+    ensures same { result ≡ number }
+    ensures few { result < 2 ^ 64 }
+{
+    u128::from(number)
 }
 
 /// A number that grows by another one. One past 2^64 counts as out of memory.

@@ -145,8 +145,19 @@ impl<'a, J: StateJudge> Reached<'a, J> {
         states + harts + self.parts.bytes()
     }
 
+    /// The numbers of the parts of a state, if it was reached.
+    pub fn find(&self, number: u32) -> Option<StateNumbers>
+        ensures found { IfSome result (λ numbers. (slice_get self.now.states number ≡ Some numbers) × AreThere self.now numbers) }
+        ensures none { IfNone result (length self.now.states ≤ number) }
+    {
+        if number as usize >= self.count() {
+            return None;
+        }
+        Some(self.numbers(number))
+    }
+
     /// The numbers of the parts of a state.
-    pub fn numbers(&self, number: u32) -> StateNumbers
+    fn numbers(&self, number: u32) -> StateNumbers
         requires { number < length self.now.states }
         ensures found { slice_get self.now.states number ≡ Some result }
         ensures there { AreThere self.now result }

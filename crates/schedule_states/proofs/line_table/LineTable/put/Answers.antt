@@ -14,6 +14,6 @@ returns-clause-put c =
     let has = c.in_ok-number.ensures.number in
     ok_of_both c.with_state.result c.with_state.ensures.found c.with_state.ensures.below
     (λ lines found below. put_present c.args.self.now new c.args.held.now lines.items c.args.line c.in_ok-number.number c.args.state has.0
-    c.requires.below c.number_of.ensures.grows has.1.0 has.1.1 found
+    c.requires.below c.number_of.ensures.grows has.1 has.2 found
     (below (length new.states) (below_grows c.args.self.now.states new.states c.args.held.now c.number_of.ensures.grows c.requires.below)
-    (slice_get_within new.states c.in_ok-number.number has.0 has.1.0)))
+    (slice_get_within new.states c.in_ok-number.number has.0 has.1)))

@@ -2,10 +2,10 @@ use Rattle.std.proofs.Common.{arith}
 use Rattle.schedule_states.proofs.memory_lists.MemoryLists.bytes.Goals as goal
 
 pub overflow_mul-result-2 : goal.overflow_mul-result-2
-overflow_mul-result-2 c = omega (arith, c.from.type_inv, c.from.ensures)
+overflow_mul-result-2 c = omega (arith, c.wide.ensures.few)
 
 pub overflow_add-result : goal.overflow_add-result
-overflow_add-result c = omega (arith, c.count.type_inv, c.from.type_inv, c.from.ensures)
+overflow_add-result c = omega (arith, c.count.type_inv, c.wide.ensures.few)
 
 pub returns-clause-few : goal.returns-clause-few
-returns-clause-few c = omega (arith, c.count.type_inv, c.from.type_inv, c.from.ensures)
+returns-clause-few c = omega (arith, c.count.type_inv, c.wide.ensures.few)

@@ -35,7 +35,7 @@ invariant_of-self-2 g c =
     c.self.inside.parts c.first_standing.new.known same c.first_standing.ensures.kept c.self.invariant
 
 pub numbers_for-requires-clause-standing : goal.numbers_for-requires-clause-standing
-numbers_for-requires-clause-standing g c =
+numbers_for-requires-clause-standing g c κs within =
     slice_get_within c.first_standing.new.known c.in_ok-standing.standing c.in_ok-standing.ensures.first.0 c.in_ok-standing.ensures.first.1
 
 -- the state at the start has its numbers
