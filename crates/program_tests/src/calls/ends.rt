@@ -10,7 +10,7 @@ use every_schedule::{Finding, Limits, Outcome, Unwatched, check_all};
 use hart::{Need, Status};
 use image_check::{Cause, OpFault};
 use isa_table::Reg;
-use machine::{Item, Machine, Run, Setup, Step};
+use machine::{Machine, Run, Setup, Step};
 use plan::Plan;
 use std::alloc::Global;
 use std::thread::Threads;
@@ -382,6 +382,24 @@ fn done_by(machine: &mut Machine, hart: u32) -> Option<usize> {
     usize::try_from(counted).ok()
 }
 
+/// How many acts each of three harts has done.
+fn all_done(machine: &mut Machine) -> Option<[usize; 3]> {
+    Some([
+        done_by(machine, 0)?,
+        done_by(machine, 1)?,
+        done_by(machine, 2)?,
+    ])
+}
+
+/// Whether the locks are taken and the flag is set.
+fn words_of(machine: &Machine) -> Option<[bool; 3]> {
+    Some([
+        machine.peek(0x10_0000)? != 0,
+        machine.peek(0x10_0040)? != 0,
+        machine.peek(0x10_0080)? != 0,
+    ])
+}
+
 /// The place to which a run leads.
 fn place_of_run(alloc: Global, start: Setup, run: &Run) -> Option<Place> {
     let mut machine = Machine::new(
@@ -392,25 +410,10 @@ fn place_of_run(alloc: Global, start: Setup, run: &Run) -> Option<Place> {
         start.capacity,
     )
     .ok()?;
-    for item in run.recorded().schedule().items() {
-        if let Item::Steps { hart, count } = item {
-            for _step in 0..*count {
-                machine.step(Step::Hart(*hart)).ok()?;
-            }
-        }
-    }
-    Some(Place {
-        done: [
-            done_by(&mut machine, 0)?,
-            done_by(&mut machine, 1)?,
-            done_by(&mut machine, 2)?,
-        ],
-        words: [
-            machine.peek(0x10_0000)? != 0,
-            machine.peek(0x10_0040)? != 0,
-            machine.peek(0x10_0080)? != 0,
-        ],
-    })
+    machine.run(run.recorded().schedule()).ok()?;
+    let done = all_done(&mut machine)?;
+    let words = words_of(&machine)?;
+    Some(Place { done, words })
 }
 
 impl Places {
