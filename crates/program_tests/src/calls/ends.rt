@@ -400,6 +400,18 @@ fn words_of(machine: &Machine) -> Option<[bool; 3]> {
     ])
 }
 
+/// The place that a machine has come to.
+fn place_of(machine: &mut Machine) -> Option<Place> {
+    let done = all_done(machine)?;
+    let words = words_of(machine)?;
+    Some(Place { done, words })
+}
+
+/// Has a machine make all steps of a run.
+fn follow(machine: &mut Machine, run: &Run) -> Option<()> {
+    machine.run(run.recorded().schedule()).ok()
+}
+
 /// The place to which a run leads.
 fn place_of_run(alloc: Global, start: Setup, run: &Run) -> Option<Place> {
     let mut machine = Machine::new(
@@ -410,10 +422,8 @@ fn place_of_run(alloc: Global, start: Setup, run: &Run) -> Option<Place> {
         start.capacity,
     )
     .ok()?;
-    machine.run(run.recorded().schedule()).ok()?;
-    let done = all_done(&mut machine)?;
-    let words = words_of(&machine)?;
-    Some(Place { done, words })
+    follow(&mut machine, run)?;
+    place_of(&mut machine)
 }
 
 impl Places {
