@@ -2,13 +2,15 @@
 //! lead. A program is a letter for each act, with a space between harts. A place is how many acts each hart has done, and the words that they
 //! share. One place leads to another by one act. Most programs are drawn from a seed.
 
+ghost use Rattle.std.specs.Prelude.{◌<◌};
+
 use crate::calls::starts::loaded;
 use crate::calls::states::OWN;
 use every_schedule::{Finding, Limits, Outcome, Unwatched, check_all};
 use hart::{Need, Status};
 use image_check::{Cause, OpFault};
 use isa_table::Reg;
-use machine::{Item, Machine, Run, Setup, Step};
+use machine::{Machine, Run, Setup, Step};
 use plan::Plan;
 use std::alloc::Global;
 use std::thread::Threads;
@@ -103,14 +105,14 @@ struct Tally {
 }
 
 impl Seed {
-    /// The next number below a bound.
-    fn below(&mut self, bound: u32) -> u32 {
+    /// The next number below a bound; None where nothing is below it.
+    fn below(&mut self, bound: u32) -> Option<u32> {
         self.state = self
             .state
             .wrapping_mul(6_364_136_223_846_793_005)
             .wrapping_add(1_442_695_040_888_963_407);
-        let high = (self.state >> 32) as u32;
-        high % bound.max(1)
+        let high = u32::try_from(self.state >> 32).ok()?;
+        high.checked_rem(bound)
     }
 
     /// The letters of a program.
@@ -127,8 +129,8 @@ impl Seed {
 
     /// One to so many acts.
     fn push_acts(&mut self, letters: &mut String, most: u32) -> Option<()> {
-        for _act in 0..=self.below(most) {
-            let act = *ACTS.get(self.below(8) as usize)?;
+        for _act in 0..=self.below(most)? {
+            let act = *ACTS.get(self.below(8)? as usize)?;
             letters.push(char::from(act)).ok()?;
         }
         Some(())
@@ -139,12 +141,12 @@ impl Seed {
 fn source_of(alloc: Global, letters: &str) -> Option<String> {
     let mut text = String::new(alloc);
     text.push_str(BEGIN).ok()?;
-    let mut hart = 0;
+    let mut hart: u32 = 0;
     push_head(alloc, &mut text, hart)?;
     for at in 0..letters.len() {
         match *letters.as_bytes().get(at)? {
             b' ' => {
-                hart += 1;
+                hart = hart.checked_add(1)?;
                 text.push_str(END).ok()?;
                 push_head(alloc, &mut text, hart)?;
             }
@@ -152,10 +154,8 @@ fn source_of(alloc: Global, letters: &str) -> Option<String> {
         }
     }
     text.push_str(END).ok()?;
-    push_line(
-        &mut text,
-        format!(in alloc; "hart{}: ecall\n", hart + 1).ok(),
-    )?;
+    let past = hart.checked_add(1)?;
+    push_line(&mut text, format!(in alloc; "hart{past}: ecall\n").ok())?;
     Some(text)
 }
 
@@ -165,7 +165,7 @@ fn push_line(text: &mut String, line: Option<String>) -> Option<()> {
 
 /// What hart `hart` comes to, from which the harts behind it go on to their own acts.
 fn push_head(alloc: Global, text: &mut String, hart: u32) -> Option<()> {
-    let next = hart + 1;
+    let next = hart.checked_add(1)?;
     let line = format!(in alloc; "hart{hart}: addi t1, a0, -{hart}\nbnez t1, hart{next}\n");
     push_line(text, line.ok())
 }
@@ -208,23 +208,25 @@ fn start_of(alloc: Global, letters: &str) -> Option<Setup> {
 
 /// The next act of a hart that has done so many; None where there is none, or no such hart.
 fn act_of(letters: &str, hart: usize, done: usize) -> Option<u8> {
-    let mut at = 0;
-    let mut acts = 0;
+    let mut at: usize = 0;
+    let mut acts: usize = 0;
     for letter in letters.as_bytes() {
         if *letter == b' ' {
-            at += 1;
+            at = at.checked_add(1)?;
         } else if at == hart {
             if acts == done {
                 return Some(*letter);
             }
-            acts += 1;
+            acts = acts.checked_add(1)?;
         }
     }
     None
 }
 
 /// The word that an act is about.
-fn word_of(act: u8) -> usize {
+fn word_of(act: u8) -> usize
+    ensures { result < 3 }
+{
     match act {
         b'a' | b'A' => 0,
         b'b' | b'B' => 1,
@@ -372,12 +374,42 @@ fn run_ahead(machine: &mut Machine, hart: u32) -> Option<()> {
 
 /// How many acts a hart has done, which makes the steps behind its last one first.
 fn done_by(machine: &mut Machine, hart: u32) -> Option<usize> {
+    run_ahead(machine, hart)?;
     if hart >= machine.harts() {
         return Some(0);
     }
-    run_ahead(machine, hart)?;
     let counted = machine.hart(hart).registers.get(Reg { number: 9 });
     usize::try_from(counted).ok()
+}
+
+/// How many acts each of three harts has done.
+fn all_done(machine: &mut Machine) -> Option<[usize; 3]> {
+    Some([
+        done_by(machine, 0)?,
+        done_by(machine, 1)?,
+        done_by(machine, 2)?,
+    ])
+}
+
+/// Whether the locks are taken and the flag is set.
+fn words_of(machine: &Machine) -> Option<[bool; 3]> {
+    Some([
+        machine.peek(0x10_0000)? != 0,
+        machine.peek(0x10_0040)? != 0,
+        machine.peek(0x10_0080)? != 0,
+    ])
+}
+
+/// The place that a machine has come to.
+fn place_of(machine: &mut Machine) -> Option<Place> {
+    let done = all_done(machine)?;
+    let words = words_of(machine)?;
+    Some(Place { done, words })
+}
+
+/// Has a machine make all steps of a run.
+fn follow(machine: &mut Machine, run: &Run) -> Option<()> {
+    machine.run(run.recorded().schedule()).ok()
 }
 
 /// The place to which a run leads.
@@ -390,25 +422,8 @@ fn place_of_run(alloc: Global, start: Setup, run: &Run) -> Option<Place> {
         start.capacity,
     )
     .ok()?;
-    for item in run.recorded().schedule().items() {
-        if let Item::Steps { hart, count } = item {
-            for _step in 0..*count {
-                machine.step(Step::Hart(*hart)).ok()?;
-            }
-        }
-    }
-    Some(Place {
-        done: [
-            done_by(&mut machine, 0)?,
-            done_by(&mut machine, 1)?,
-            done_by(&mut machine, 2)?,
-        ],
-        words: [
-            machine.peek(0x10_0000)? != 0,
-            machine.peek(0x10_0040)? != 0,
-            machine.peek(0x10_0080)? != 0,
-        ],
-    })
+    follow(&mut machine, run)?;
+    place_of(&mut machine)
 }
 
 impl Places {
@@ -468,6 +483,7 @@ fn outcome_of<T: Threads + Sync>(
     let limits = Limits {
         states: 10_000,
         any_end: false,
+        workers: 1,
     };
     check_all(rt, alloc, &plan, setup, limits, &mut Unwatched).ok()
 }
