@@ -16,9 +16,9 @@ pub returns-clause-good : goal.returns-clause-good
 returns-clause-good g c told =
     let judge = c.args.self.now in
     let view : ProgramView = program_of judge.setup.now judge.recovery.program.now judge.recovery.steps in
-    cuts_right view (notes_in judge.runs.now) c.args.standing.now c.behind.result.now c.args.images.now c.new-cuts.result.images.now _ c.in_ok-verdict.verdict c.new-cuts.ensures
+    cuts_right view (notes_in judge.runs.now) c.args.standing.now c.behind-right.result.now c.args.images.now c.new-cuts.result.images.now _ c.in_ok-verdict.verdict c.new-cuts.ensures
     (c.verdict_of.ensures told)
-    (right_found (notes_in judge.runs.now) c.note.new.self c.args.standing.now c.behind.result.now c.behind.ensures c.note.ensures.kept)
+    (right_found (notes_in judge.runs.now) c.note.new.self c.args.standing.now c.behind-right.result.now c.behind-right.ensures c.note.ensures.kept)
     c.in_ok-verdict.ensures.ok
 
 pub returns-clause-fits : goal.returns-clause-fits
