@@ -7,7 +7,6 @@
 
 mod answers;
 mod atomic_orders;
-mod ends;
 mod hostile;
 mod images;
 mod library_messages;
