@@ -5,7 +5,7 @@ pub mod Determined
 pub mod Evicting
 pub mod Leaving
 pub mod Refusing
-pub mod QuietSteps
+pub mod RowsMade
 pub mod RunParts
 pub mod Stepped
 pub mod Stepping

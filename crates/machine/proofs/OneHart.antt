@@ -1,20 +1,23 @@
 -- The steps of one hart, one after another.
-use Rattle.std.proofs.Common.{◌≡◌, ℕ, zero, suc, ◌+◌, ◌-◌, ◌%◌, ◌<◌, ◌≤◌, ◌^◌, List, [], ◌∷◌, ◌++◌, length, replicate, drop, Option, Some, None, true, false, slice_get, refl, sym, ap, subst, ◌∙◌, inl, inr, arith}
+use Rattle.std.proofs.Common.{◌≡◌, ℕ, zero, suc, ◌+◌, ◌-◌, ◌%◌, ◌<◌, ◌≤◌, ◌^◌, List, [], ◌∷◌, ◌++◌, length, replicate, drop, Option, Some, None, true, false, slice_get, slice_index_or, refl, sym, ap, subst, ◌∙◌, inl, inr, arith}
 use Rattle.std.proofs.lemmas.Bool.{cases_lt}
-use Rattle.std.proofs.lemmas.List.{append-nil, replicate-append-replicate, replicate_more, take-append-drop, take-replicate}
+use Rattle.std.proofs.lemmas.Option.{slice_get-get_or}
+use Rattle.std.proofs.lemmas.List.{append-nil, length-append, replicate-append-replicate, replicate_more, take-append-drop, take-replicate}
 use Rattle.hart.specs.declared.state.HartState.{HartState}
 use Rattle.hart.specs.declared.state.Status.{Status}
 use Rattle.hart.specs.declared.state.Status.TheVariants.{Running, Exited, Trapped}
 use Rattle.machine.proofs.Counting.{all_counted}
 use Rattle.machine.proofs.Determined.{runs_once}
 use Rattle.machine.proofs.RunParts.{run_parted}
-use Rattle.machine.specs.Represents.{IsRunning, RunsBoth}
+use Rattle.machine.specs.Represents.{IsRunning, MachineView, Runs, RunsBoth}
 use Rattle.machine.specs.Run.{RunsTo}
 use Rattle.machine.specs.Stops.{has_stopped, is_stopped}
-use Rattle.machine.specs.QuietSteps.{RunsBeforeEach}
+use Rattle.machine.specs.Rows.{EndsByEventOf, RunsBeforeEach}
 use Rattle.machine.specs.Traced.{steps_alone}
 use Rattle.machine.specs.TracerLaws.{makes_more, passed_is}
-use Rattle.machine.proofs.Tracing.{tells_none}
+use Rattle.machine.proofs.Tracing.{continues_event, tells_none}
+use Rattle.machine.specs.RunLaws.{both_more}
+use Rattle.machine.specs.declared.run_trace.traced_event.TracedEvent.{TracedEvent}
 use Rattle.machine.specs.Tracers.{Continues, IsHeld, Makes, TracerView, passed_all}
 use Rattle.std.proofs.Math.Nat.{mod-eq_of_lt}
 use Rattle.machine.proofs.Places.{step_here}
@@ -107,20 +110,32 @@ makes_more_alone old middle new h made more a b =
     (makes_more old middle new (replicate made (Hart h)) (replicate more (Hart h)) a b)
 
 -- it runs before several steps more
-pub running_on : (old middle : TracerView) (h made more : ℕ) → old.made ≡ 0 → made < 2 ^ 32 → RunsBeforeEach old.machine h made
-    → Makes old (replicate made (Hart h)) middle → RunsBeforeEach middle.machine h more → RunsBeforeEach old.machine h (made + more)
-running_on old middle h made more none small before makes others k c d fits stands run = elim (cases_lt k made) [
+pub running_further : (old middle : MachineView) (h made more : ℕ) → RunsBeforeEach old h made → Runs old middle (replicate made (Hart h))
+    → RunsBeforeEach middle h more → RunsBeforeEach old h (made + more)
+running_further old middle h made more before runs others k c d fits stands run = elim (cases_lt k made) [
   | inl less ↦ before k c d less stands run
   | inr past ↦
       let left : ℕ = k - made in
       let all : k ≡ made + left = omega arith in
-      let after = (continues_alone old middle h made none small makes).runs.represents c stands in
+      let after = runs.represents c stands in
       let split : RunsTo c (replicate made (Hart h) ++ replicate left (Hart h)) d =
       subst (λ (steps : List Step). RunsTo c steps d) (sym (replicate-append-replicate made left (Hart h))) (rw all at run) in
       let parts = run_parted c d (replicate made (Hart h)) (replicate left (Hart h)) split in
       let same : parts.0 ≡ after.0 = runs_once c (replicate made (Hart h)) parts.0 after.0 parts.1 after.1 in
       others left after.0 d (omega arith) after.2 (rw same at parts.2)
 ]
+
+pub running_on : (old middle : TracerView) (h made more : ℕ) → old.made ≡ 0 → made < 2 ^ 32 → RunsBeforeEach old.machine h made
+    → Makes old (replicate made (Hart h)) middle → RunsBeforeEach middle.machine h more → RunsBeforeEach old.machine h (made + more)
+running_on old middle h made more none small before makes others =
+    running_further old.machine middle.machine h made more before (continues_alone old middle h made none small makes).runs others
+
+-- both ways, several steps more
+pub both_further : (old middle new : MachineView) (h made more : ℕ) → RunsBoth old middle (replicate made (Hart h))
+    → RunsBoth middle new (replicate more (Hart h)) → RunsBoth old new (replicate (made + more) (Hart h))
+both_further old middle new h made more a b =
+    subst (λ (steps : List Step). RunsBoth old new steps) (replicate-append-replicate made more (Hart h))
+    (both_more old middle new (replicate made (Hart h)) (replicate more (Hart h)) a b)
 
 -- steps that make no event
 pub makes_quietly : (old new : TracerView) (h n : ℕ) → RunsBoth old.machine new.machine (replicate n (Hart h))
@@ -136,3 +151,30 @@ makes_quietly old new h n runs same made traced few =
       made = made ∙ mod-eq_of_lt count ∙ sym all;
       tells = tells_none old new (replicate n (Hart h)) runs.runs (omega arith) traced;
     }
+
+-- a row of steps whose event is told
+pub last_there : (trace before : List Event) (i : ℕ) (event other : Event) → trace ≡ before ++ event ∷ [] → i + 1 ≡ length trace
+    → slice_get trace (length before) ≡ Some (slice_index_or trace i other)
+last_there trace before i event other longer last =
+    let all = ap (λ (events : List Event). length events) longer ∙ length-append before (event ∷ []) in
+    let here : i ≡ length before = omega arith in
+    rw here (slice_get-get_or trace (length before) other (omega arith))
+
+pub makes_row : {t : TracedEvent} (old new : TracerView) (h n pc : ℕ) → new.traced ≡ old.traced ++ t ∷ [] → EndsByEventOf old.machine h n pc new.machine
+    → t.pc ≡ pc → t.step ≡ (old.made + n) % 2 ^ 32 → new.made ≡ (old.made + n) % 2 ^ 32
+    → slice_get new.machine.shared.trace (length old.machine.shared.trace) ≡ Some t.event → Makes old (replicate n (Hart h)) new
+makes_row {t} old new h n pc traced row told number made got few =
+    let all : old.made + n < 2 ^ 32 = rw (passed_is, all_counted) at few in
+    let count = row.all in
+    let between : TracerView = record { machine = row.middle; made = (old.made + row.quiet) % 2 ^ 32; traced = old.traced } in
+    let before = makes_quietly old between h row.quiet row.before row.same refl refl in
+    let small : old.made + row.quiet < 2 ^ 32 = omega arith in
+    let so_far : between.made ≡ old.made + row.quiet = mod-eq_of_lt small in
+    let numbered : t.step ≡ between.made + 1 = number ∙ mod-eq_of_lt all ∙ omega arith in
+    let counted : new.made ≡ between.made + 1 = made ∙ mod-eq_of_lt all ∙ omega arith in
+    let read : slice_get new.machine.shared.trace (length row.middle.shared.trace) ≡ Some t.event = rw row.same got in
+    let last : Makes between (Hart h ∷ []) new =
+    λ fits. continues_event between new h row.state t row.last.runs row.last.exact row.there (told ∙ row.pc_is) numbered counted read traced in
+    let whole : Makes old (replicate (row.quiet + 1) (Hart h)) new = makes_one_more old between new h row.quiet before last in
+    let as_many : Makes old (replicate n (Hart h)) new = subst (λ (k : ℕ). Makes old (replicate k (Hart h)) new) (sym count) whole in
+    as_many few

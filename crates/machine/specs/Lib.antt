@@ -4,7 +4,7 @@ pub mod Evicting
 pub mod Left
 pub mod Outcomes
 pub mod Refusals
-pub mod QuietSteps
+pub mod Rows
 pub mod Represents
 pub mod Run
 pub mod RunLaws

@@ -4,8 +4,8 @@
 mod fault;
 mod laws;
 mod machine;
-mod quiet_steps;
 mod recording;
+mod rows;
 mod run_trace;
 mod running;
 mod schedule;

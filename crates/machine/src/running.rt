@@ -29,7 +29,7 @@ impl Stepper for Machine {
         }
     }
 
-    /// All steps of a hart that has stopped, which change nothing; of one that runs, those up to the first that may make an event.
+    /// All steps of a hart that has stopped, which change nothing; of one that runs, those up to the first that traps by itself, is a FENCE.I or is refused.
     fn make_several(&mut self, step: Step, most: u32) -> u32 {
         let Step::Hart(hart) = step else {
             return 0;
@@ -37,7 +37,7 @@ impl Stepper for Machine {
         if self.has_stopped(hart) {
             return most;
         }
-        self.make_quiet_steps(hart, most)
+        self.make_rows(hart, most)
     }
 
     ghost no_step = { both_none };

@@ -1,7 +1,7 @@
 //! How a run of one hart is traced.
 
 ghost use Rattle.machine.specs.Stops.{is_stopped};
-ghost use Rattle.machine.specs.QuietSteps.{RunsBeforeEach};
+ghost use Rattle.machine.specs.Rows.{RunsBeforeEach};
 ghost use Rattle.machine.specs.Traced.{StopsTracing, Traces, steps_alone};
 ghost use Rattle.machine.specs.Tracers.{IsHeld, Makes};
 ghost use Rattle.machine.specs.Walks.{HaltsAt};
@@ -72,7 +72,7 @@ fn go_on(tracer: &mut Tracer, hart: u32, most: u32) -> Result<u32, RunStop>
 {
     let mut made = 0;
     loop {
-        made += tracer.make_quiet_steps(hart, most - made);
+        made += tracer.make_rows(hart, most - made);
         if made == most || tracer.machine.has_stopped(hart) {
             return Ok(made);
         }

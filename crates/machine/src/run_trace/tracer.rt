@@ -1,12 +1,15 @@
 //! How a run is traced.
 
-ghost use Rattle.machine.specs.QuietSteps.{RunsBeforeEach};
+ghost use Rattle.machine.specs.Represents.{RunsBoth};
+ghost use Rattle.machine.specs.Rows.{RunsBeforeEach};
 ghost use Rattle.machine.specs.Traced.{StopsTracing, Traces};
 ghost use Rattle.machine.specs.Tracers.{IsHeld, Makes};
 ghost use Rattle.machine.specs.Grammar.{hart_steps as count_of_hart_steps};
 ghost use Rattle.machine.specs.Steps.{all_steps};
-ghost use Rattle.std.specs.Prelude.{◌≡◌, ◌+◌, ◌^◌, ◌<◌, ◌≤◌, [], ◌∷◌, ◌++◌, IfErr, IfOk, OnOk, replicate};
+ghost use Rattle.std.specs.Prelude.{◌≡◌, ◌+◌, ◌^◌, ◌<◌, ◌≤◌, [], ◌∷◌, ◌++◌, IfErr, IfOk, IfSome, OnOk, replicate};
+ghost use Rattle.std.specs.Vec.{vec_capacity, vec_len};
 
+use crate::rows::Row;
 use crate::run_trace::traced_event::TracedEvent;
 use crate::{Machine, Place, RunStop, Schedule, Step, StepFault, Stepper, walk};
 use std::alloc::Global;
@@ -87,13 +90,13 @@ impl Stepper for Tracer {
         }
     }
 
-    /// All steps of a hart that has stopped; of one that runs, those up to the first that may make an event.
+    /// All steps of a hart that has stopped; of one that runs, those up to the first that traps by itself, is a FENCE.I or is refused.
     fn make_several(&mut self, step: Step, most: u32) -> u32 {
         let Step::Hart(hart) = step else {
             return 0;
         };
         if !self.machine.has_stopped(hart) {
-            return self.make_quiet_steps(hart, most);
+            return self.make_rows(hart, most);
         }
         self.made = self.made.wrapping_add(most);
         most
@@ -133,15 +136,48 @@ impl Tracer {
         }
     }
 
-    /// Makes the next steps of a hart that make no event, so many at most, and says how many they are.
-    pub(crate) fn make_quiet_steps(&mut self, hart: u32, most: u32) -> u32
+    /// Makes the next steps of a hart and tells their events, up to the first that traps by itself, is a FENCE.I or is refused, but so
+    /// many at most, and says how many they are.
+    pub(crate) fn make_rows(&mut self, hart: u32, most: u32) -> u32
         ensures most { result ≤ most }
         ensures made { Makes self.old (replicate result (Step.Hart hart)) self.new }
         ensures running { RunsBeforeEach self.old.machine hart result }
     {
-        let made = self.machine.make_quiet_steps(hart, most);
-        self.made = self.made.wrapping_add(made);
+        let mut made = 0;
+        while made < most {
+            let row = self.make_row(hart, most - made);
+            made += row.steps;
+            if row.event_pc.is_none() {
+                return made;
+            }
+        }
         made
+    }
+
+    /// Makes a row of steps of a hart and tells its event, if there is memory for that.
+    #[inline(always)]
+    fn make_row(&mut self, hart: u32, most: u32) -> Row
+        ensures most { result.steps ≤ most }
+        ensures made { Makes self.old (replicate result.steps (Step.Hart hart)) self.new }
+        ensures runs { RunsBoth self.old.machine self.new.machine (replicate result.steps (Step.Hart hart)) }
+        ensures running { RunsBeforeEach self.old.machine hart result.steps }
+        ensures event { IfSome result.event_pc (λ _. 0 < result.steps) }
+    {
+        if self.traced.reserve(1).is_err() {
+            return Row::quiet(0);
+        }
+        let row = self.machine.make_row(hart, most);
+        self.made = self.made.wrapping_add(row.steps);
+        if let Some(pc) = row.event_pc {
+            let events = self.machine.events();
+            let traced = TracedEvent {
+                step: self.made,
+                pc,
+                event: events[events.len() - 1],
+            };
+            push_reserved(&mut self.traced, traced);
+        }
+        row
     }
 
     fn evict(&mut self, line: u32) -> Result<(), StepFault>
@@ -162,5 +198,16 @@ fn push_traced(events: &mut Vec<TracedEvent>, traced: TracedEvent) -> Result<(),
     match events.push(traced) {
         Ok(()) => Ok(()),
         Err(_) => Err(StepFault::Memory),
+    }
+}
+
+/// Tells of an event that there is room for.
+fn push_reserved(events: &mut Vec<TracedEvent>, traced: TracedEvent)
+    requires { vec_len events.old < vec_capacity events.old }
+    ensures { events.new.items ≡ events.old.items ++ traced ∷ [] }
+{
+    match events.push(traced) {
+        Ok(()) => {}
+        Err(_) => unreachable!(),
     }
 }

@@ -1,5 +1,5 @@
 use Rattle.std.proofs.Common.{◌≤◌, ◌-◌, replicate}
-use Rattle.machine.specs.QuietSteps.{RunsBeforeEach}
+use Rattle.machine.specs.Rows.{RunsBeforeEach}
 use Rattle.machine.specs.Tracers.{Makes}
 use Rattle.machine.specs.declared.schedule.items.Step.TheVariants.{Hart}
 use Rattle.machine.proofs.run_trace.alone.go_on.Given as goal

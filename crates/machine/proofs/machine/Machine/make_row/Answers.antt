@@ -1,12 +1,12 @@
-use Rattle.std.proofs.Common.{◌≡◌, ◌<◌, length, length-set, ap, arith, refl, Some, slice_get, slice_index_or, [], ◌∙◌}
+use Rattle.std.proofs.Common.{◌≡◌, ◌<◌, length, length-set, ap, arith, refl, Some, slice_get, slice_index_or, []}
 use Rattle.machine.specs.Represents.{MachineView}
-use Rattle.machine.proofs.QuietSteps.{goes_quietly, quiet_keeps, runs_before_each, state_there, text_there}
-use Rattle.machine.proofs.machine.Machine.make_quiet_steps.Goals as goal
+use Rattle.machine.proofs.RowsMade.{row_named, row_of, row_running, row_runs, state_there, text_there}
+use Rattle.machine.proofs.machine.Machine.make_row.Goals as goal
 
 pub invariant_of-self : goal.invariant_of-self
 invariant_of-self c =
-    let keeps = quiet_keeps _ c.args.hart c.go_quietly.result _ _ _ _ c.go_quietly.ensures.steps in
-    (rw length-set c.self.invariant.0, rw length-set c.self.invariant.1, rw keeps.0 c.self.invariant.2, rw (keeps.0, keeps.1) c.self.invariant.3)
+    let named = row_named _ c.args.hart _ _ _ _ _ _ c.go_on.ensures.row c.self.invariant.2 c.self.invariant.3 in
+    (rw length-set c.self.invariant.0, rw length-set c.self.invariant.1, named.0, named.1)
 
 pub returns-clause-runs : goal.returns-clause-runs
 returns-clause-runs c =
@@ -24,8 +24,8 @@ returns-clause-runs c =
     state_there c.args.self.now.harts c.args.hart s inside (rw harts at c.index_mut-state.ensures.value) in
     let text : c.index-copy.result.now ≡ slice_index_or c.args.self.now.copies c.args.hart [] =
     text_there c.args.self.now.copies c.args.hart c.index-copy.result.now among (rw copies at c.index-copy.ensures) in
-    goes_quietly c.args.self.now _ c.args.hart _ s c.go_quietly.new.state c.go_quietly.new.shared few each there
-    (rw (text, shared) at c.go_quietly.ensures.steps) (rw (← c.self.view_is) refl)
+    row_runs c.args.self.now _ c.args.hart _ _ s c.go_on.new.state c.go_on.new.shared few each there
+    (rw (text, shared) at c.go_on.ensures.row) (rw (← c.self.view_is) refl)
 
 pub returns-clause-running : goal.returns-clause-running
 returns-clause-running c =
@@ -43,10 +43,24 @@ returns-clause-running c =
     state_there c.args.self.now.harts c.args.hart s inside (rw harts at c.index_mut-state.ensures.value) in
     let text : c.index-copy.result.now ≡ slice_index_or c.args.self.now.copies c.args.hart [] =
     text_there c.args.self.now.copies c.args.hart c.index-copy.result.now among (rw copies at c.index-copy.ensures) in
-    runs_before_each c.args.self.now c.args.hart s few each there c.go_quietly.result c.go_quietly.new.state c.go_quietly.new.shared
-    (rw (text, shared) at c.go_quietly.ensures.steps)
+    row_running c.args.self.now c.args.hart _ _ s c.go_on.new.state c.go_on.new.shared few each there
+    (rw (text, shared) at c.go_on.ensures.row)
 
-pub returns-clause-trace : goal.returns-clause-trace
-returns-clause-trace c =
-    let keeps = quiet_keeps _ c.args.hart c.go_quietly.result _ _ _ _ c.go_quietly.ensures.steps in
-    keeps.0 ∙ ap (λ (m : MachineView). m.shared.trace) c.self.view_is
+pub returns-clause-row : goal.returns-clause-row
+returns-clause-row c =
+    let s = c.index_mut-state.result.now in
+    let harts = ap (λ (m : MachineView). m.harts) c.self.view_is in
+    let copies = ap (λ (m : MachineView). m.copies) c.self.view_is in
+    let shared = ap (λ (m : MachineView). m.shared) c.self.view_is in
+    let each = rw (harts, copies) at c.self.invariant.1 in
+    let count = c.harts.ensures.count in
+    let limit = c.harts.ensures.limit in
+    let few : c.args.hart < 8 = omega arith in
+    let inside : c.args.hart < length c.args.self.now.harts = omega arith in
+    let among : c.args.hart < length c.args.self.now.copies = omega arith in
+    let there : slice_get c.args.self.now.harts c.args.hart ≡ Some s =
+    state_there c.args.self.now.harts c.args.hart s inside (rw harts at c.index_mut-state.ensures.value) in
+    let text : c.index-copy.result.now ≡ slice_index_or c.args.self.now.copies c.args.hart [] =
+    text_there c.args.self.now.copies c.args.hart c.index-copy.result.now among (rw copies at c.index-copy.ensures) in
+    row_of c.args.self.now _ c.args.hart _ _ s c.go_on.new.state c.go_on.new.shared few each there
+    (rw (text, shared) at c.go_on.ensures.row) (rw (← c.self.view_is) refl)
