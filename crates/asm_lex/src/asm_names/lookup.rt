@@ -21,8 +21,20 @@ use isa_table::{
 };
 
 /// The statement that a name begins.
-#[tactic(auto, unfolding(crate::specs::Mnemonics::mnemonic_of))]
+#[tactic(auto, using(crate::proofs::Directives::dotted))]
 pub fn mnemonic_of(text: &[u8]) -> Option<Mnemonic>
+    ensures { result ≡ mnemonic_of text.now }
+{
+    match text {
+        // Each directive begins with a dot, and nothing else does.
+        [b'.', ..] => directive_of(text),
+        _ => listed(text),
+    }
+}
+
+/// The statement that a name begins, by all tables in turn.
+#[tactic(auto, unfolding(crate::specs::Mnemonics::mnemonic_of))]
+fn listed(text: &[u8]) -> Option<Mnemonic>
     ensures { result ≡ mnemonic_of text.now }
 {
     operation_of(text)
