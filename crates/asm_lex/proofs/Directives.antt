@@ -3,7 +3,9 @@ use Rattle.std.proofs.Common.{◌≡◌, ℕ, ◌<◌, List, [], ◌∷◌, leng
 use Rattle.std.specs.Prelude.{Option, Some, None}
 use Rattle.std.specs.Option.{option_or, option_and_then}
 use Rattle.asm_lex.specs.Mnemonics.{mnemonic_of, operation_of, computation_of, transfer_of, special_of, pseudo_of, single_of, directive_of, upper_of, branch_of, load_of, store_of, immediate_of, shift_of, register_op_of, cache_of, system_of, atomic_of, atomic_mnemonic_of, form_of, formed, unary_of, zero_branch_of, exchanged_branch_of}
+use Rattle.asm_lex.specs.declared.asm_names.kinds.NumberWidth.TheVariants.{Doubleword}
 use Rattle.asm_lex.specs.declared.asm_names.mnemonic.Mnemonic.{Mnemonic}
+use Rattle.asm_lex.specs.declared.asm_names.mnemonic.Mnemonic.TheVariants as mnemonics
 use Rattle.asm_lex.specs.declared.asm_names.mnemonic.AtomicForm.{AtomicForm}
 
 no_computation : (bs : List ℕ) → computation_of (46 ∷ bs) ≡ None
@@ -51,3 +53,29 @@ directive_or_nothing bs = rw (no_operation bs, no_single bs, no_pseudo bs, no_at
 pub dotted : (text : List ℕ) → 0 < length text → get_or text 0 0 ≡ 46 → directive_of text ≡ mnemonic_of text
 dotted [] some first = absurd (omega arith)
 dotted (b ∷ bs) some first = rw (first) (sym (directive_or_nothing bs))
+
+-- the directives with the longest names
+pub is_dword : (text : List ℕ) → length text ≡ 6 → get_or text 0 0 ≡ 46 → get_or text 1 0 ≡ 100 → get_or text 2 0 ≡ 119 → get_or text 3 0 ≡ 111 → get_or text 4 0 ≡ 114 → get_or text 5 0 ≡ 100
+    → Some (mnemonics.Numbers Doubleword) ≡ directive_of text
+unfolding directive_of
+is_dword [] len h0 h1 h2 h3 h4 h5 = absurd (omega arith)
+is_dword (a ∷ []) len h0 h1 h2 h3 h4 h5 = absurd (omega arith)
+is_dword (a ∷ b ∷ []) len h0 h1 h2 h3 h4 h5 = absurd (omega arith)
+is_dword (a ∷ b ∷ c ∷ []) len h0 h1 h2 h3 h4 h5 = absurd (omega arith)
+is_dword (a ∷ b ∷ c ∷ d ∷ []) len h0 h1 h2 h3 h4 h5 = absurd (omega arith)
+is_dword (a ∷ b ∷ c ∷ d ∷ e ∷ []) len h0 h1 h2 h3 h4 h5 = absurd (omega arith)
+is_dword (a ∷ b ∷ c ∷ d ∷ e ∷ f ∷ []) len h0 h1 h2 h3 h4 h5 = rw (h0, h1, h2, h3, h4, h5) refl
+is_dword (a ∷ b ∷ c ∷ d ∷ e ∷ f ∷ x ∷ xs) len h0 h1 h2 h3 h4 h5 = absurd (omega arith)
+
+pub is_balign : (text : List ℕ) → length text ≡ 7 → get_or text 0 0 ≡ 46 → get_or text 1 0 ≡ 98 → get_or text 2 0 ≡ 97 → get_or text 3 0 ≡ 108 → get_or text 4 0 ≡ 105 → get_or text 5 0 ≡ 103 → get_or text 6 0 ≡ 110
+    → Some (mnemonics.Align) ≡ directive_of text
+unfolding directive_of
+is_balign [] len h0 h1 h2 h3 h4 h5 h6 = absurd (omega arith)
+is_balign (a ∷ []) len h0 h1 h2 h3 h4 h5 h6 = absurd (omega arith)
+is_balign (a ∷ b ∷ []) len h0 h1 h2 h3 h4 h5 h6 = absurd (omega arith)
+is_balign (a ∷ b ∷ c ∷ []) len h0 h1 h2 h3 h4 h5 h6 = absurd (omega arith)
+is_balign (a ∷ b ∷ c ∷ d ∷ []) len h0 h1 h2 h3 h4 h5 h6 = absurd (omega arith)
+is_balign (a ∷ b ∷ c ∷ d ∷ e ∷ []) len h0 h1 h2 h3 h4 h5 h6 = absurd (omega arith)
+is_balign (a ∷ b ∷ c ∷ d ∷ e ∷ f ∷ []) len h0 h1 h2 h3 h4 h5 h6 = absurd (omega arith)
+is_balign (a ∷ b ∷ c ∷ d ∷ e ∷ f ∷ g ∷ []) len h0 h1 h2 h3 h4 h5 h6 = rw (h0, h1, h2, h3, h4, h5, h6) refl
+is_balign (a ∷ b ∷ c ∷ d ∷ e ∷ f ∷ g ∷ x ∷ xs) len h0 h1 h2 h3 h4 h5 h6 = absurd (omega arith)
