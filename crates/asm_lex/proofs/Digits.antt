@@ -1,12 +1,12 @@
 -- What the digits of numbers are.
-use Rattle.std.proofs.Common.{◌≡◌, ℕ, ◌^◌, ◌<◌, ◌≤◌, Bool, true, false, ◌&&◌, List, [], ◌∷◌, length, drop, refl, arith}
-use Rattle.std.specs.Prelude.{◌==◌, Some, None, nat_lt}
+use Rattle.std.proofs.Common.{◌≡◌, ℕ, ◌^◌, ◌-◌, ◌<◌, ◌≤◌, Bool, true, false, ◌&&◌, List, [], ◌∷◌, length, get_or, take, drop, take_all, refl, sym, arith}
+use Rattle.std.specs.Prelude.{◌==◌, Option, Some, None, nat_lt, option_map, if◌then◌else◌}
 use Rattle.std.specs.Char.{digit_value}
 use Rattle.std.specs.Str.Parse.{AllDigits, IsNumeral, digits_value}
 use Rattle.std.proofs.lemmas.Bool.Decides.{nat_tests}
 use Rattle.text.specs.Numbers.{Writes}
 use Rattle.text.specs.declared.numbers.Number.TheVariants.{Small, Large}
-use Rattle.asm_lex.specs.Kinds.{are_digits, is_decimal, is_hexadecimal, in_word}
+use Rattle.asm_lex.specs.Kinds.{number, are_digits, is_decimal, is_hexadecimal, in_word, value_of, number_of}
 
 -- both parts of a test
 pub both_left : (a b : Bool) → (a && b) ≡ true → a ≡ true
@@ -17,7 +17,14 @@ pub both_right : (a b : Bool) → (a && b) ≡ true → b ≡ true
 both_right true b h = h
 both_right false b h = cc
 
--- digits by the test are digits
+never : (a : Bool) → (a && false) ≡ false
+never true = refl
+never false = refl
+
+some_left : (b : ℕ) (bs : List ℕ) → (length (b ∷ bs) == 0) ≡ false
+some_left b bs = grind (arith, nat_tests)
+
+-- digits by the test are digits, and the other way round
 all_digits : (radix : ℕ) (ds : List ℕ) → are_digits radix ds ≡ true → AllDigits radix ds
 unfolding are_digits
 all_digits radix [] h = tt
@@ -25,53 +32,117 @@ all_digits radix (d ∷ ds) h =
     let below : nat_lt (digit_value d) radix ≡ true = both_left _ _ h in
     ((let small : digit_value d < radix = grind (arith, nat_tests) in small), all_digits radix ds (both_right _ _ h))
 
-pub numeral_there : (radix : ℕ) (ds : List ℕ) → are_digits radix ds ≡ true → 0 < length ds → IsNumeral radix ds
-numeral_there radix ds h some = (some, all_digits radix ds h)
+pub digits_are : (radix : ℕ) (ds : List ℕ) → AllDigits radix ds → are_digits radix ds ≡ true
+unfolding are_digits
+digits_are radix [] h = refl
+digits_are radix (d ∷ ds) h =
+    let below : nat_lt (digit_value d) radix ≡ true = grind (arith, nat_tests, h.0) in
+    rw (below) (digits_are radix ds h.1)
 
 -- the number that they write, below 2^64 and past it
-pub small_is : (radix n : ℕ) (ds : List ℕ) → Writes radix ds (Small n) → n < 2 ^ 64 → Some n ≡ in_word (digits_value radix ds)
+in_word_small : (n : ℕ) → n < 2 ^ 64 → in_word n ≡ Some n
 unfolding in_word
-small_is radix n ds w small =
-    let same : n ≡ digits_value radix ds = w.value in
-    let below : nat_lt (digits_value radix ds) (2 ^ 64) ≡ true = grind (arith, nat_tests) in
-    rw (below, same) refl
+in_word_small n small =
+    let below : nat_lt n (2 ^ 64) ≡ true = grind (arith, nat_tests) in
+    rw below refl
 
-pub large_is : (radix : ℕ) (ds : List ℕ) → Writes radix ds Large → None ≡ in_word (digits_value radix ds)
+in_word_large : (n : ℕ) → 2 ^ 64 ≤ n → in_word n ≡ None
 unfolding in_word
-large_is radix ds w =
-    let past : 2 ^ 64 ≤ digits_value radix ds = w.value in
-    grind (arith, nat_tests)
+in_word_large n past =
+    let not_below : nat_lt n (2 ^ 64) ≡ false = grind (arith, nat_tests) in
+    rw not_below refl
 
--- what the tests of a number say
-pub decimal_digits : (bs : List ℕ) → is_decimal bs ≡ true → are_digits 10 bs ≡ true
+value_there : (radix : ℕ) (ds : List ℕ) → IsNumeral radix ds → value_of radix ds ≡ Some (in_word (digits_value radix ds))
+unfolding value_of
+value_there radix [] h = absurd (omega (arith, h.0))
+value_there radix (d ∷ ds) h = rw (digits_are radix (d ∷ ds) h.1) refl
+
+pub small_is : (radix n : ℕ) (ds : List ℕ) → Writes radix ds (Small n) → n < 2 ^ 64 → Some (Some n) ≡ value_of radix ds
+small_is radix n ds w small = rw (value_there radix ds w.numeral, ← w.value, in_word_small n small) refl
+
+pub large_is : (radix : ℕ) (ds : List ℕ) → Writes radix ds Large → Some None ≡ value_of radix ds
+large_is radix ds w = rw (value_there radix ds w.numeral, in_word_large (digits_value radix ds) w.value) refl
+
+-- other bytes write none
+none_by : (radix d : ℕ) (ds : List ℕ) (t : Bool) → are_digits radix (d ∷ ds) ≡ t → ¬ (IsNumeral radix (d ∷ ds)) → None ≡ value_of radix (d ∷ ds)
+unfolding value_of
+none_by radix d ds true is h = absurd (h (omega arith, all_digits radix (d ∷ ds) is))
+none_by radix d ds false is h = rw is refl
+
+none_of_none : (radix : ℕ) → None ≡ value_of radix []
+unfolding value_of
+none_of_none radix = refl
+
+pub none_is : (radix : ℕ) (ds : List ℕ) → ¬ (IsNumeral radix ds) → None ≡ value_of radix ds
+none_is radix [] h = none_of_none radix
+none_is radix (d ∷ ds) h = none_by radix d ds (are_digits radix (d ∷ ds)) refl h
+
+-- a piece is a number by its first byte: 48, which is 0, or another one
+is_decimal_zero : (b : ℕ) (bs : List ℕ) → is_decimal (48 ∷ b ∷ bs) ≡ false
 unfolding is_decimal
-decimal_digits [] h = cc
-decimal_digits (b ∷ bs) h = both_left _ _ h
+is_decimal_zero b bs = rw (some_left b bs) (never (are_digits 10 (48 ∷ b ∷ bs)))
 
-pub prefix_there : (bs : List ℕ) → is_hexadecimal bs ≡ true → 2 ≤ length bs
+zero_number : number_of (48 ∷ []) ≡ Some (number (Some 0) (48 ∷ []))
+unfolding number_of is_decimal are_digits in_word
+zero_number = refl
+
+pub zero_alone : (bs : List ℕ) → length bs ≡ 0 → Some (number (Some 0) (48 ∷ bs)) ≡ number_of (48 ∷ bs)
+zero_alone [] none = sym zero_number
+zero_alone (b ∷ bs) none = absurd (omega arith)
+
+by_test : (t : Bool) (v : Option ℕ) (text : List ℕ) → option_map (λ w. number w text) (if t then Some v else None) ≡ (if t then Some (number v text) else None)
+by_test true v text = refl
+by_test false v text = refl
+
+hexadecimal_number : (ds : List ℕ) → option_map (λ v. number v (48 ∷ 120 ∷ ds)) (value_of 16 ds) ≡ number_of (48 ∷ 120 ∷ ds)
+unfolding number_of value_of is_hexadecimal
+hexadecimal_number [] = rw (is_decimal_zero 120 []) refl
+hexadecimal_number (d ∷ ds) =
+    rw (is_decimal_zero 120 (d ∷ ds), some_left d ds) (by_test (are_digits 16 (d ∷ ds)) (in_word (digits_value 16 (d ∷ ds))) (48 ∷ 120 ∷ d ∷ ds))
+
+pub zero_then_digits : (bs : List ℕ) (found : Option (Option ℕ)) → 0 < length bs → get_or bs 0 0 ≡ 120 → found ≡ value_of 16 (take (length bs - 1) (drop 1 bs))
+    → option_map (λ v. number v (48 ∷ bs)) found ≡ number_of (48 ∷ bs)
+zero_then_digits [] found some first value = absurd (omega arith)
+zero_then_digits (b ∷ bs) found some first value =
+    let whole : take (length (b ∷ bs) - 1) bs ≡ bs = take_all (length (b ∷ bs) - 1) bs (omega arith) in
+    rw (value, first, whole) (hexadecimal_number bs)
+
+not_hexadecimal : (b : ℕ) (bs : List ℕ) → (b == 120) ≡ false → is_hexadecimal (48 ∷ b ∷ bs) ≡ false
 unfolding is_hexadecimal
-prefix_there [] h = cc
-prefix_there (a ∷ []) h = cc
-prefix_there (a ∷ b ∷ bs) h = omega arith
+not_hexadecimal b bs other = rw other refl
 
-pub hexadecimal_digits : (bs : List ℕ) → is_hexadecimal bs ≡ true → are_digits 16 (drop 2 bs) ≡ true
-unfolding is_hexadecimal
-hexadecimal_digits [] h = cc
-hexadecimal_digits (a ∷ []) h = cc
-hexadecimal_digits (a ∷ b ∷ bs) h = both_right _ _ h
+other_number : (b : ℕ) (bs : List ℕ) → (b == 120) ≡ false → None ≡ number_of (48 ∷ b ∷ bs)
+unfolding number_of
+other_number b bs other = rw (is_decimal_zero b bs, not_hexadecimal b bs other) refl
 
-pub decimal_some : (bs : List ℕ) → is_decimal bs ≡ true → 0 < length bs
+pub zero_then_other : (bs : List ℕ) → 0 < length bs → (get_or bs 0 0 ≡ 120 → ⊥) → None ≡ number_of (48 ∷ bs)
+zero_then_other [] some other = absurd (omega arith)
+zero_then_other (b ∷ bs) some other = other_number b bs (grind (arith, nat_tests))
+
+pub nothing_written : (bs : List ℕ) → length bs ≡ 0 → None ≡ number_of bs
+unfolding number_of is_decimal is_hexadecimal
+nothing_written [] none = refl
+nothing_written (b ∷ bs) none = absurd (omega arith)
+
+pub zero_first : (bs rest : List ℕ) (found : Option (Option ℕ)) → 0 < length bs → get_or bs 0 0 ≡ 48 → rest ≡ drop 1 bs
+    → option_map (λ v. number v (48 ∷ rest)) found ≡ number_of (48 ∷ rest) → option_map (λ v. number v bs) found ≡ number_of bs
+zero_first [] rest found some first is written = absurd (omega arith)
+zero_first (b ∷ bs) rest found some first is written = rw (first, ← is) written
+
+decimal_tests : (b : ℕ) (bs : List ℕ) → (b == 48) ≡ false → is_decimal (b ∷ bs) ≡ are_digits 10 (b ∷ bs)
 unfolding is_decimal
-decimal_some [] h = cc
-decimal_some (b ∷ bs) h = omega arith
+decimal_tests b bs other = rw other (grind arith)
 
-never : (a b : Bool) → ((a && false) && b) ≡ true → ⊥
-never true b h = cc
-never false b h = cc
-
-pub hexadecimal_some : (bs : List ℕ) → is_hexadecimal bs ≡ true → 0 < length (drop 2 bs)
+hexadecimal_tests : (b : ℕ) (bs : List ℕ) → (b == 48) ≡ false → is_hexadecimal (b ∷ bs) ≡ false
 unfolding is_hexadecimal
-hexadecimal_some [] h = cc
-hexadecimal_some (a ∷ []) h = cc
-hexadecimal_some (a ∷ b ∷ []) h = absurd (never (a == 48 && b == 120) (are_digits 16 []) h)
-hexadecimal_some (a ∷ b ∷ c ∷ bs) h = omega arith
+hexadecimal_tests b [] other = refl
+hexadecimal_tests b (c ∷ bs) other = rw other refl
+
+decimal_number : (b : ℕ) (bs : List ℕ) → (b == 48) ≡ false → option_map (λ v. number v (b ∷ bs)) (value_of 10 (b ∷ bs)) ≡ number_of (b ∷ bs)
+unfolding number_of value_of
+decimal_number b bs other = rw (decimal_tests b bs other, hexadecimal_tests b bs other) (by_test (are_digits 10 (b ∷ bs)) (in_word (digits_value 10 (b ∷ bs))) (b ∷ bs))
+
+pub digit_first : (bs : List ℕ) (found : Option (Option ℕ)) → 0 < length bs → (get_or bs 0 0 ≡ 48 → ⊥) → found ≡ value_of 10 bs
+    → option_map (λ v. number v bs) found ≡ number_of bs
+digit_first [] found some other value = absurd (omega arith)
+digit_first (b ∷ bs) found some other value = rw value (decimal_number b bs (grind (arith, nat_tests)))

@@ -1,5 +1,6 @@
 pub mod Cuts
 pub mod Digits
+pub mod Directives
 pub mod Cutting
 pub mod Judging
 pub mod KindLists

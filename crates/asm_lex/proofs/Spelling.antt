@@ -8,9 +8,9 @@ use Rattle.std.specs.Str.Parse.{AllDigits, digits_value}
 use Rattle.std.proofs.lemmas.Bool.Decides.{nat_tests}
 use Rattle.std.proofs.lemmas.Fmt.{decimal_is_IsNumeral, decimal_digit, first_decimal}
 use Rattle.asm_lex.specs.Pieces.{is_word, begins_word, pieces}
-use Rattle.asm_lex.specs.Kinds.{are_digits, is_decimal, in_word, number_of, number, kind_of}
+use Rattle.asm_lex.specs.Kinds.{is_decimal, in_word, number_of, number, kind_of}
 use Rattle.asm_lex.proofs.Cuts.{run_alone, word_here}
-use Rattle.asm_lex.proofs.Digits.{both_left, both_right}
+use Rattle.asm_lex.proofs.Digits.{both_left, both_right, digits_are}
 
 -- a run, and what follows it and begins no run: one piece, and the pieces of the rest
 pub pieces-run : (b : ℕ) (bs rest : List ℕ) → list_all is_word (b ∷ bs) ≡ true → begins_word rest ≡ false → pieces (b ∷ bs ++ rest) ≡ (b ∷ bs) ∷ pieces rest
@@ -20,13 +20,6 @@ pieces-run b (c ∷ bs) rest h k =
     rw (word_here b (c ∷ bs ++ rest) (both_left _ _ h), both_left (is_word c) (list_all is_word bs) more, pieces-run c bs rest more k) refl
 
 -- the decimal digits of a number are a run, and the token of that number
-digits_are : (ds : List ℕ) → AllDigits 10 ds → are_digits 10 ds ≡ true
-unfolding are_digits
-digits_are [] h = refl
-digits_are (d ∷ ds) h =
-    let below : nat_lt (digit_value d) 10 ≡ true = grind (arith, nat_tests, h.0) in
-    rw (below) (digits_are ds h.1)
-
 digit_is_word : (d : ℕ) → digit_value d < 10 → is_word d ≡ true
 unfolding is_word
 digit_is_word d h = grind (arith, nat_tests)
@@ -42,7 +35,7 @@ kind_of-digits (d ∷ ds) n all some lone value fits =
     let first : nat_lt (digit_value d) 10 ≡ true = grind (arith, nat_tests, all.0) in
     let whole : (not (d == 48) || length ds == 0) ≡ true = grind (arith, nat_tests) in
     let small : nat_lt n (2 ^ 64) ≡ true = grind (arith, nat_tests) in
-    rw (first, digits_are (d ∷ ds) all, whole, value, small) refl
+    rw (first, digits_are 10 (d ∷ ds) all, whole, value, small) refl
 
 pub is_word-decimal : (n : ℕ) → n < 2 ^ 64 → list_all is_word (decimal n) ≡ true
 is_word-decimal n fits = digits_are_word (decimal n) (decimal_is_IsNumeral n fits).0.1

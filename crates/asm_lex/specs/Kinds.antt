@@ -48,6 +48,11 @@ is_hexadecimal (a ∷ b ∷ bs) = a == 48 && b == 120 && not (length bs == 0) &&
 unfoldable pub in_word : ℕ → Option ℕ
 in_word n = if nat_lt n (2 ^ 64) then Some n else None
 
+-- the number that digits of a radix write, one or more; None of other bytes
+unfoldable pub value_of : ℕ → List ℕ → Option (Option ℕ)
+value_of radix [] = None
+value_of radix (d ∷ ds) = if are_digits radix (d ∷ ds) then Some (in_word (digits_value radix (d ∷ ds))) else None
+
 -- the number that a piece writes
 unfoldable pub number_of : List ℕ → Option Lexeme
 number_of bs =

@@ -1,10 +1,8 @@
 //! Which pieces of a line are tokens.
 
-ghost use Rattle.asm_lex.specs.Kinds.{are_digits, is_decimal, is_hexadecimal, in_word, number_of};
-ghost use Rattle.asm_lex.specs.Kinds.{mark_of, kind_of, lexeme_of};
+ghost use Rattle.asm_lex.specs.Kinds.{kind_of, lexeme_of, mark_of, number, number_of, value_of};
 ghost use Rattle.asm_lex.specs.Pieces.{is_word};
-ghost use Rattle.std.specs.Prelude.{◌≡◌, ◌<◌, ◌≤◌, length, option_map, true};
-ghost use Rattle.std.specs.Str.Parse.{digits_value};
+ghost use Rattle.std.specs.Prelude.{◌≡◌, ◌≤◌, ◌∷◌, option_map};
 
 use crate::Kind;
 use text::{Number, number_in};
@@ -17,74 +15,49 @@ pub(crate) fn is_word(byte: u8) -> bool
     byte.is_ascii_alphanumeric() || byte == b'_' || byte == b'.'
 }
 
-/// Each byte is a digit in this radix.
-#[tactic(auto, unfolding(crate::specs::Kinds::are_digits))]
-fn are_digits(text: &[u8], radix: u32) -> bool
-    requires low { 2 ≤ radix }
-    requires high { radix ≤ 36 }
-    ensures { result ≡ are_digits radix text.now }
-{
-    text.iter().all(|byte| char::from(*byte).is_digit(radix))
-}
-
-/// Decimal digits, without a needless leading zero.
-#[tactic(auto, unfolding(crate::specs::Kinds::is_decimal))]
-fn is_decimal(text: &[u8]) -> bool
-    ensures { result ≡ is_decimal text.now }
-{
-    match text {
-        [] => false,
-        [first, rest @ ..] => are_digits(text, 10) && (*first != b'0' || rest.is_empty()),
-    }
-}
-
-/// `0x` and hexadecimal digits.
-#[tactic(auto, unfolding(crate::specs::Kinds::is_hexadecimal))]
-fn is_hexadecimal(text: &[u8]) -> bool
-    ensures { result ≡ is_hexadecimal text.now }
-{
-    match text {
-        [zero, x, digits @ ..] => {
-            *zero == b'0' && *x == b'x' && !digits.is_empty() && are_digits(digits, 16)
-        }
-        _ => false,
-    }
-}
-
-/// The number that digits write, and None from 2^64 on.
-#[tactic(auto, using(crate::proofs::Digits::numeral_there, crate::proofs::Digits::small_is, crate::proofs::Digits::large_is))]
-fn value(digits: &[u8], radix: u32) -> Option<u64>
+/// The number that digits of a radix write, which is None within from 2^64 on; None of other bytes.
+#[tactic(auto, using(crate::proofs::Digits::small_is, crate::proofs::Digits::large_is, crate::proofs::Digits::none_is))]
+fn value(digits: &[u8], radix: u32) -> Option<Option<u64>>
     requires low { 2 ≤ radix }
     requires high { radix ≤ 16 }
-    requires some { 0 < length digits.now }
-    requires digits { are_digits radix digits.now ≡ true }
-    ensures { result ≡ in_word (digits_value radix digits.now) }
+    ensures { result ≡ value_of radix digits.now }
 {
     match number_in(digits, radix)? {
-        Number::Small(value) => Some(value),
-        Number::Large => None,
+        Number::Small(value) => Some(Some(value)),
+        Number::Large => Some(None),
+    }
+}
+
+/// The number that a piece writes which begins with a zero: nothing follows it, or `x` and hexadecimal digits do.
+#[tactic(auto, using(crate::proofs::Digits::zero_alone, crate::proofs::Digits::zero_then_digits, crate::proofs::Digits::zero_then_other))]
+fn value_behind_zero(rest: &[u8]) -> Option<Option<u64>>
+    ensures { option_map (λ v. number v (48 ∷ rest.now)) result ≡ number_of (48 ∷ rest.now) }
+{
+    match rest {
+        [] => Some(Some(0)),
+        [b'x', digits @ ..] => value(digits, 16),
+        _ => None,
+    }
+}
+
+/// The number that a piece writes, if it is one.
+#[tactic(auto, using(crate::proofs::Digits::nothing_written, crate::proofs::Digits::zero_first, crate::proofs::Digits::digit_first))]
+fn written(text: &[u8]) -> Option<Option<u64>>
+    ensures { option_map (λ v. number v text.now) result ≡ number_of text.now }
+{
+    match text {
+        [] => None,
+        [b'0', rest @ ..] => value_behind_zero(rest),
+        _ => value(text, 10),
     }
 }
 
 /// A number, where the piece writes one.
-#[tactic(auto, unfolding(crate::specs::Kinds::number_of), using(crate::proofs::Digits::decimal_digits, crate::proofs::Digits::decimal_some, crate::proofs::Digits::prefix_there, crate::proofs::Digits::hexadecimal_digits, crate::proofs::Digits::hexadecimal_some))]
 fn number(text: &[u8]) -> Option<Kind<'_>>
     ensures { option_map lexeme_of result ≡ number_of text.now }
 {
-    if is_decimal(text) {
-        Some(Kind::Number {
-            value: value(text, 10),
-            text,
-        })
-    } else if is_hexadecimal(text) {
-        let (_, digits) = text.split_at(2);
-        Some(Kind::Number {
-            value: value(digits, 16),
-            text,
-        })
-    } else {
-        None
-    }
+    let value = written(text)?;
+    Some(Kind::Number { value, text })
 }
 
 /// The mark that a byte is.
@@ -104,6 +77,7 @@ fn mark(byte: u8) -> Option<Kind<'static>>
 }
 
 /// The kind of the token that a piece is.
+#[inline(always)]
 #[tactic(auto, unfolding(crate::specs::Kinds::kind_of))]
 pub(crate) fn kind_of(piece: &[u8]) -> Option<Kind<'_>>
     ensures { option_map lexeme_of result ≡ kind_of piece.now }

@@ -23,7 +23,7 @@ pub use asm_names::{
 use kinds::kind_of;
 pub use lines::next_line;
 use scan::next_piece;
-use std::alloc::{AllocFailed, Global};
+use std::alloc::{AllocError, AllocFailed, Global};
 
 /// What a token is: a name or a number with its text, or a mark.
 #[derive(Clone, Copy, Debug, PartialEq, Eq)]
@@ -61,6 +61,14 @@ impl<T: Drop> From<AllocFailed<T>> for LexFault {
     ghost from_gives = { λ _ fault. fault ≡ Memory };
 
     fn from(_failed: AllocFailed<T>) -> LexFault {
+        LexFault::Memory
+    }
+}
+
+impl From<AllocError> for LexFault {
+    ghost from_gives = { λ _ fault. fault ≡ Memory };
+
+    fn from(_refused: AllocError) -> LexFault {
         LexFault::Memory
     }
 }
@@ -121,6 +129,9 @@ pub fn tokens<'a>(alloc: Global, source: &'a [u8], line: u32) -> Result<Vec<Toke
     }
 }
 
+/// Most lines have no more tokens, so that their list need not grow.
+const USUAL_TOKENS: usize = 16;
+
 /// What the pieces of a line are, each a token. Memory may be told of a line with a bad token, too, which stands behind what was found.
 #[tactic(auto, using(crate::proofs::KindLists::kinds_start, crate::proofs::KindLists::kinds_all, crate::proofs::KindLists::all_tokens))]
 fn collect_kinds<'a>(alloc: Global, source: &'a [u8]) -> Result<Vec<Kind<'a>>, LexFault>
@@ -128,7 +139,7 @@ fn collect_kinds<'a>(alloc: Global, source: &'a [u8]) -> Result<Vec<Kind<'a>>, L
     ensures tokens { OnOk result (are_tokens (pieces source.now) ≡ true) }
     ensures bad { IfErr result (λ fault. fault ≡ BadToken → are_tokens (pieces source.now) ≡ false) }
 {
-    let mut found = Vec::new(alloc);
+    let mut found = Vec::with_capacity(alloc, USUAL_TOKENS)?;
     let mut at = 0;
     while let Some((start, end)) = next_piece(source, at) {
         let Some(kind) = kind_of(&source[start..end]) else {

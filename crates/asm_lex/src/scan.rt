@@ -45,6 +45,7 @@ fn piece_len(bytes: &[u8]) -> Option<usize>
 }
 
 /// Where the line's next piece after a place begins and ends.
+#[inline(always)]
 #[tactic(auto, using(crate::proofs::Cuts::unblank_found, crate::proofs::Cuts::none_found))]
 pub(crate) fn next_piece(line: &[u8], from: usize) -> Option<(usize, usize)>
     requires { from ≤ length line.now }

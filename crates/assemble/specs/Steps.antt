@@ -3,6 +3,7 @@ use Rattle.std.specs.Prelude.{◌≡◌, ℕ, ◌+◌, length, List, [], ◌∷�
 use Rattle.asm_lex.specs.Kinds.{Lexeme, comma, lexeme_of}
 use Rattle.asm_lex.specs.declared.Kind.{Kind}
 use Rattle.assemble.specs.declared.asm_line.fault.AsmCode.{AsmCode}
+use Rattle.assemble.specs.declared.asm_line.fault.AsmCode.TheVariants.{Operands}
 use Rattle.assemble.specs.declared.asm_line.line.Statement.{Statement}
 use Rattle.assemble.specs.declared.asm_line.operands.SignedNumber.{SignedNumber}
 use Rattle.assemble.specs.declared.asm_line.operands.Target.{Target as FoundTarget}
@@ -67,3 +68,13 @@ stored_all width (n ∷ ns) = do
   v ← stored width n
   vs ← stored_all width ns
   Ok (v ∷ vs)
+
+-- the values of numbers that may be no list, or the lowest code
+abbrev pub values_by : NumberWidth → Option (List SignedNumber) → Result (List ℕ) AsmCode
+values_by width None = Err Operands
+values_by width (Some ns) = stored_all width ns
+
+-- the lowest code of a number out of its range and of the numbers after it, which may be no list
+abbrev pub lowest_code : AsmCode → Option (List SignedNumber) → AsmCode
+lowest_code code None = Operands
+lowest_code code (Some ns) = code

@@ -21,8 +21,20 @@ use isa_table::{
 };
 
 /// The statement that a name begins.
-#[tactic(auto, unfolding(crate::specs::Mnemonics::mnemonic_of))]
+#[tactic(auto, using(crate::proofs::Directives::dotted))]
 pub fn mnemonic_of(text: &[u8]) -> Option<Mnemonic>
+    ensures { result ≡ mnemonic_of text.now }
+{
+    match text {
+        // Each directive begins with a dot, and nothing else does.
+        [b'.', ..] => directive_of(text),
+        _ => listed(text),
+    }
+}
+
+/// The statement that a name begins, by all tables in turn.
+#[tactic(auto, unfolding(crate::specs::Mnemonics::mnemonic_of))]
+fn listed(text: &[u8]) -> Option<Mnemonic>
     ensures { result ≡ mnemonic_of text.now }
 {
     operation_of(text)
@@ -104,22 +116,21 @@ fn single_of(text: &[u8]) -> Option<Mnemonic>
     named(&SINGLES, text)
 }
 
-static DIRECTIVES: [(&[u8], Mnemonic); 8] = [
-    (b".text", Mnemonic::Section(Section::Text)),
-    (b".data", Mnemonic::Section(Section::Data)),
-    (b".byte", Mnemonic::Numbers(NumberWidth::Byte)),
-    (b".half", Mnemonic::Numbers(NumberWidth::Half)),
-    (b".word", Mnemonic::Numbers(NumberWidth::Word)),
-    (b".dword", Mnemonic::Numbers(NumberWidth::Doubleword)),
-    (b".zero", Mnemonic::Zeros),
-    (b".balign", Mnemonic::Align),
-];
-
 #[tactic(auto, unfolding(crate::specs::Mnemonics::directive_of))]
 fn directive_of(text: &[u8]) -> Option<Mnemonic>
     ensures { result ≡ directive_of text.now }
 {
-    named(&DIRECTIVES, text)
+    match text {
+        b".text" => Some(Mnemonic::Section(Section::Text)),
+        b".data" => Some(Mnemonic::Section(Section::Data)),
+        b".byte" => Some(Mnemonic::Numbers(NumberWidth::Byte)),
+        b".half" => Some(Mnemonic::Numbers(NumberWidth::Half)),
+        b".word" => Some(Mnemonic::Numbers(NumberWidth::Word)),
+        b".dword" => Some(Mnemonic::Numbers(NumberWidth::Doubleword)),
+        b".zero" => Some(Mnemonic::Zeros),
+        b".balign" => Some(Mnemonic::Align),
+        _ => None,
+    }
 }
 
 /// How many bytes stand before the first dot.

@@ -5,8 +5,8 @@ ghost use Rattle.assemble.specs.Grammar.{statement_of};
 ghost use Rattle.assemble.specs.AsmLineFaults.{Fails};
 ghost use Rattle.assemble.specs.Meanings.{meaning_of, width_bytes, IsInRange};
 ghost use Rattle.assemble.specs.Numbers.{numbers_of, with_first};
-ghost use Rattle.assemble.specs.Steps.{all_seen, numbers_left, left_len, numbers_after, stored};
-ghost use Rattle.assemble.specs.Steps.{stored_all, Says};
+ghost use Rattle.assemble.specs.Steps.{all_seen, numbers_left, left_len, lowest_code, numbers_after};
+ghost use Rattle.assemble.specs.Steps.{stored, values_by, Says};
 ghost use Rattle.std.specs.Prelude.{◌≡◌, ◌≢◌, ◌+◌, ◌*◌, ◌-◌, ◌^◌, ◌<◌, ◌≤◌, length, All, Some, None, Ok};
 ghost use Rattle.std.specs.Prelude.{IfOk, IfErr, IfSome, MatchOption, option_and_then};
 
@@ -52,7 +52,7 @@ pub(crate) fn align<'a>(operands: &[Kind<'a>]) -> Result<Statement<'a>, AsmCode>
 }
 
 /// `.byte`, `.half`, `.word` and `.dword`: one number or more, between commas.
-#[tactic(auto, unfolding(crate::specs::Grammar::statement_of), using(crate::proofs::NumberLists::values_of_integers))]
+#[tactic(auto, using(crate::proofs::NumberLists::numbers_are, crate::proofs::NumberLists::numbers_fail))]
 pub(crate) fn numbers<'a>(
     alloc: Global,
     width: NumberWidth,
@@ -64,26 +64,46 @@ pub(crate) fn numbers<'a>(
         (statement_of (Mnemonic.Numbers width) (all_seen operands.now))) }
     ensures in_range { IfOk result (λ s. IsInRange (meaning_of s)) }
 {
-    let numbers = number_list(alloc, operands)?;
-    let values = values(alloc, width, &numbers)?;
+    let values = values(alloc, width, operands)?;
     Ok(Statement::Numbers { width, values })
 }
 
-/// One number or more, between commas.
-#[tactic(auto, using(crate::proofs::NumberLists::list_start, crate::proofs::NumberLists::list_goes_on, crate::proofs::NumberLists::list_ends, crate::proofs::NumberLists::list_fails))]
-fn number_list(alloc: Global, lexemes: &[Kind]) -> Result<Vec<SignedNumber>, AsmCode>
-    ensures ok { IfOk result (λ found. numbers_of (all_seen lexemes.now) ≡ Some found.items) }
-    ensures err { IfErr result (λ code. code ≢ AsmCode.Memory
-        → (code ≡ AsmCode.Operands) × (numbers_of (all_seen lexemes.now) ≡ None)) }
+/// One number or more, between commas, each modulo its width.
+#[tactic(auto, using(crate::proofs::NumberLists::values_start, crate::proofs::NumberLists::values_go_on, crate::proofs::NumberLists::values_end, crate::proofs::NumberLists::values_none, crate::proofs::NumberLists::values_fault))]
+fn values(alloc: Global, width: NumberWidth, lexemes: &[Kind]) -> Result<Vec<u64>, AsmCode>
+    ensures ok { IfOk result (λ found. values_by width (numbers_of (all_seen lexemes.now))
+        ≡ Ok found.items) }
+    ensures err { IfErr result (λ code. Fails code
+        (values_by width (numbers_of (all_seen lexemes.now)))) }
+    ensures in_range { IfOk result (λ found. All
+        (λ v. v < 2 ^ (8 * width_bytes width)) found.items) }
 {
     let mut found = Vec::new(alloc);
     let mut rest = Some(lexemes);
     while let Some(left) = rest {
         let (number, after) = front(left).ok_or(AsmCode::Operands)?;
-        found.push(number)?;
+        match stored(width, number) {
+            Ok(value) => found.push(value)?,
+            Err(code) => return Err(lowest_code(code, after)),
+        }
         rest = after;
     }
     Ok(found)
+}
+
+/// The lowest code of a number and of what follows its comma, which may be no list of numbers.
+#[tactic(auto, using(crate::proofs::NumberLists::code_goes_on, crate::proofs::NumberLists::code_ends))]
+fn lowest_code(code: AsmCode, lexemes: Option<&[Kind]>) -> AsmCode
+    ensures { result ≡ lowest_code code (numbers_left lexemes.entry) }
+{
+    let mut rest = lexemes;
+    while let Some(left) = rest {
+        let Some((_, after)) = front(left) else {
+            return AsmCode::Operands;
+        };
+        rest = after;
+    }
+    code
 }
 
 /// The number that stands first, and what follows the comma after it, if one stands there.
@@ -109,21 +129,6 @@ fn after_comma<'s, 'a>(lexemes: &'s [Kind<'a>]) -> Option<Option<&'s [Kind<'a>]>
         [Kind::Comma, rest @ ..] => Some(Some(rest)),
         _ => None,
     }
-}
-
-/// The numbers modulo their width.
-#[tactic(auto, using(crate::proofs::NumberLists::stored_start, crate::proofs::NumberLists::stored_more))]
-fn values(alloc: Global, width: NumberWidth, numbers: &[SignedNumber]) -> Result<Vec<u64>, AsmCode>
-    ensures ok { IfOk result (λ found. stored_all width numbers.now ≡ Ok found.items) }
-    ensures err { IfErr result (λ code. Fails code (stored_all width numbers.now)) }
-    ensures in_range { IfOk result (λ found. All
-        (λ v. v < 2 ^ (8 * width_bytes width)) found.items) }
-{
-    let mut found = Vec::new(alloc);
-    for number in numbers {
-        found.push(stored(width, *number)?)?;
-    }
-    Ok(found)
 }
 
 /// A number modulo its width, where it is in the range from minus half the unsigned one to its end.
