@@ -1,4 +1,4 @@
-use Rattle.std.proofs.Common.{◌≡◌, ◌<◌, ◌≤◌, ℕ, List, length, get_or, sym, subst}
+use Rattle.std.proofs.Common.{◌≡◌, ◌<◌, ◌≤◌, ℕ, length, get_or, sym, subst}
 use Rattle.store_trace.specs.Stores.{stores}
 use Rattle.store_trace.specs.History.{at_moment}
 use Rattle.crash_image.proofs.Queries.{stores_found}

@@ -1,4 +1,4 @@
-use Rattle.std.proofs.Common.{◌≡◌, ap, ◌∙◌, List}
+use Rattle.std.proofs.Common.{ap, ◌∙◌, List}
 use Rattle.crash_image.specs.Lines.{LineView, floor_before}
 use Rattle.crash_image.specs.declared.trace_index.line.Raise.{Raise}
 use Rattle.crash_image.proofs.trace_index.line.LineIndex.floor_at.Goals as goal

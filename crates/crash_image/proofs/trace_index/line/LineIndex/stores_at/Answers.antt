@@ -1,7 +1,6 @@
-use Rattle.std.proofs.Common.{◌≡◌, ap, sym, subst, length, List, arith}
+use Rattle.std.proofs.Common.{◌≡◌, ap, length, arith}
 use Rattle.crash_image.proofs.Places.{place_last}
-use Rattle.crash_image.specs.Lines.{IsPlace, LineView, store_event}
-use Rattle.crash_image.specs.declared.trace_index.line.StoredLine.{StoredLine}
+use Rattle.crash_image.specs.Lines.{LineView, store_event}
 use Rattle.crash_image.proofs.trace_index.line.LineIndex.stores_at.Goals as goal
 
 pub returns-then-are_before-clause-place : goal.returns-then-are_before-clause-place
