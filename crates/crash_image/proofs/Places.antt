@@ -62,3 +62,14 @@ place_end event xs m early = record {
   below = early;
   above = λ i d a b. absurd (omega arith);
 }
+
+-- where all elements are of earlier events
+pub place_last : {X : Type 0} (event : X → ℕ) (xs : List X) (m count : ℕ) → ((i : ℕ) (d : X) → i < length xs → event (get_or xs i d) < m) →
+    IsPlace event xs m count → length xs ≡ count
+place_last event [] m count early p = omega (arith, p.within)
+place_last event (x ∷ xs) m count early p = elim (cases_Bool (nat_lt count (length (x ∷ xs)))) [
+  | inl short ↦
+      let there : count < length (x ∷ xs) = grind (arith, nat_tests, short) in
+      absurd (omega (arith, early count x there, p.above count x (omega arith) there))
+  | inr all ↦ grind (arith, nat_tests, all, p.within)
+]

@@ -14,44 +14,43 @@ use Rattle.store_trace.specs.declared.crash_model.step.PersistenceStep.TheVarian
 use Rattle.line_memory.specs.Lines.{line_at}
 use Rattle.store_trace.specs.History.{at_moment, history, steps_of}
 use Rattle.store_trace.specs.declared.event.Event.{Event}
-use Rattle.crash_image.specs.Lines.{AreLines, IsPlace, bytes_before, floor_before, raise_event, store_event}
-use Rattle.crash_image.specs.declared.trace_index.line.LineIndex.{LineIndex}
+use Rattle.crash_image.specs.Lines.{AreLines, IsPlace, LineView, bytes_before, floor_before, raise_event, store_event}
 use Rattle.crash_image.specs.declared.trace_index.line.StoredLine.{StoredLine}
 
-pub floor_found : (start : List (List ℕ)) (past : ℕ → List PersistenceStep) (n : ℕ) (lines : List LineIndex) (l m count : ℕ) (d : LineIndex) →
+pub floor_found : (start : List (List ℕ)) (past : ℕ → List PersistenceStep) (n : ℕ) (lines : List LineView) (l m number : ℕ) (d : LineView) →
     AreLines start past n lines → l < length start → m ≤ n →
-    ((k : ℕ) → IsPlace raise_event (get_or lines l d).raises.items m k → count ≡ k) →
-    floor_before (get_or lines l d).raises.items count ≡ floor l (past m)
-floor_found start past n lines l m count d a there le found =
+    ((k : ℕ) → IsPlace raise_event (get_or lines l d).raises m k → number ≡ floor_before (get_or lines l d).raises k) →
+    number ≡ floor l (past m)
+floor_found start past n lines l m number d a there le found =
     let f = (a.each l d there).raised.floors m le in
-    rw (found f.count f.place) f.value
+    found f.count f.place ∙ f.value
 
-pub stores_found : (start : List (List ℕ)) (past : ℕ → List PersistenceStep) (n : ℕ) (lines : List LineIndex) (l m count : ℕ) (d : LineIndex) →
+pub stores_found : (start : List (List ℕ)) (past : ℕ → List PersistenceStep) (n : ℕ) (lines : List LineView) (l m count : ℕ) (d : LineView) →
     AreLines start past n lines → l < length start → m ≤ n →
-    ((k : ℕ) → IsPlace store_event (get_or lines l d).stores.items m k → count ≡ k) →
+    ((k : ℕ) → IsPlace store_event (get_or lines l d).stores m k → count ≡ k) →
     count ≡ stores l (past m)
 stores_found start past n lines l m count d a there le found = found (stores l (past m)) ((a.each l d there).stored.place m le)
 
-pub stores_count : (start : List (List ℕ)) (past : ℕ → List PersistenceStep) (n : ℕ) (lines : List LineIndex) (l : ℕ) (d : LineIndex) →
-    AreLines start past n lines → l < length start → length (get_or lines l d).stores.items ≡ stores l (past n)
+pub stores_count : (start : List (List ℕ)) (past : ℕ → List PersistenceStep) (n : ℕ) (lines : List LineView) (l : ℕ) (d : LineView) →
+    AreLines start past n lines → l < length start → length (get_or lines l d).stores ≡ stores l (past n)
 stores_count start past n lines l d a there = (a.each l d there).stored.count
 
-pub stores_few : (start : List (List ℕ)) (past : ℕ → List PersistenceStep) (n : ℕ) (lines : List LineIndex) (l : ℕ) (d : LineIndex) →
-    AreLines start past n lines → l < length start → length (get_or lines l d).stores.items ≤ n
+pub stores_few : (start : List (List ℕ)) (past : ℕ → List PersistenceStep) (n : ℕ) (lines : List LineView) (l : ℕ) (d : LineView) →
+    AreLines start past n lines → l < length start → length (get_or lines l d).stores ≤ n
 stores_few start past n lines l d a there = (a.each l d there).stored.few
 
-pub bytes_found : (start : List (List ℕ)) (past : ℕ → List PersistenceStep) (n : ℕ) (lines : List LineIndex) (l number : ℕ) (d : LineIndex) →
+pub bytes_found : (start : List (List ℕ)) (past : ℕ → List PersistenceStep) (n : ℕ) (lines : List LineView) (l number : ℕ) (d : LineView) →
     AreLines start past n lines → l < length start → number ≤ stores l (past n) →
-    bytes_before (line_at start l) (get_or lines l d).stores.items number ≡ line_after (line_at start l) l number (past n)
+    bytes_before (line_at start l) (get_or lines l d).stores number ≡ line_after (line_at start l) l number (past n)
 bytes_found start past n lines l zero d a there le = sym (line_after_none (line_at start l) l (past n))
 bytes_found start past n lines l (suc k) d a there le =
     let s = (a.each l d there).stored in
-    let lt : k < length (get_or lines l d).stores.items = omega (arith, s.count, le) in
+    let lt : k < length (get_or lines l d).stores = omega (arith, s.count, le) in
     let none : StoredLine = record { event = 0; bytes = [] } in
     let one : k + 1 ≡ suc k = omega arith in
     let less : suc k - 1 ≡ k = omega arith in
     let same : (suc k == 0) ≡ false = grind (arith, nat_tests) in
-    rw (same, less) (subst (λ (x : ℕ). (get_or (get_or lines l d).stores.items k none).bytes ≡ line_after (line_at start l) l x (past n)) one (s.bytes k none lt))
+    rw (same, less) (subst (λ (x : ℕ). (get_or (get_or lines l d).stores k none).bytes ≡ line_after (line_at start l) l x (past n)) one (s.bytes k none lt))
 
 -- once the line has its stores, the further events leave it
 stores_more : (l : ℕ) (q p : List PersistenceStep) → stores l p ≤ stores l (q ++ p)

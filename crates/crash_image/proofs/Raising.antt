@@ -9,10 +9,9 @@ use Rattle.store_trace.specs.declared.crash_model.step.PersistenceStep.{Persiste
 use Rattle.store_trace.specs.declared.crash_model.step.PersistenceStep.TheVariants as step
 use Rattle.line_memory.specs.Lines.{line_at}
 use Rattle.crash_image.proofs.Steps.{last_raised, raises_more, raises_raised, stores_stay}
-use Rattle.crash_image.specs.Lines.{AreLines, IsLine, last_floor, raised_to}
+use Rattle.crash_image.specs.Lines.{AreLines, IsLine, LineView, last_floor, raised_to}
 use Rattle.crash_image.specs.Pendings.{IsHartPending, IsRaising}
 use Rattle.crash_image.specs.declared.trace_index.build.Clean.{Clean}
-use Rattle.crash_image.specs.declared.trace_index.line.LineIndex.{LineIndex}
 use Rattle.crash_image.specs.declared.trace_index.line.Raise.{Raise}
 
 -- the default of a read within the list doesn't matter
@@ -32,22 +31,22 @@ set_other xs at x i d other =
 
 -- one clean more
 pub raising_more : (start : List (List ℕ)) (past : ℕ → List PersistenceStep) (n hart : ℕ) (cleans : List Clean) (read : ℕ)
-    (lines : List LineIndex) (x : Clean) (d new : LineIndex) → ((c : Clean) → get_or cleans read c ≡ x) →
+    (lines : List LineView) (x : Clean) (d new : LineView) → ((c : Clean) → get_or cleans read c ≡ x) →
     x.line < length start → x.stores ≤ cleaned x.line hart (past n) →
-    new.stores.items ≡ (get_or lines x.line d).stores.items →
-    new.raises.items ≡ raised_to (get_or lines x.line d).raises.items n x.stores →
+    new.stores ≡ (get_or lines x.line d).stores →
+    new.raises ≡ raised_to (get_or lines x.line d).raises n x.stores →
     IsRaising start past n hart cleans read lines → IsRaising start past n hart cleans (read + 1) (slice_set lines x.line new)
 raising_more start past n hart cleans read lines x d new is b made same raised r =
     let within : x.line < length lines = omega (arith, b, r.size) in
-    let last : last_floor new.raises.items ≡ max (last_floor (get_or lines x.line d).raises.items) x.stores =
-    ap (λ (raises : List Raise). last_floor raises) raised ∙ last_raised (get_or lines x.line d).raises.items n x.stores in
+    let last : last_floor new.raises ≡ max (last_floor (get_or lines x.line d).raises) x.stores =
+    ap (λ (raises : List Raise). last_floor raises) raised ∙ last_raised (get_or lines x.line d).raises n x.stores in
     let line : IsLine (line_at start x.line) x.line past n new = record {
       stored = rw same (r.each x.line d b).stored;
-      raised = rw raised (raises_raised x.line past n x.stores (get_or lines x.line d).raises.items (r.each x.line d b).raised);
+      raised = rw raised (raises_raised x.line past n x.stores (get_or lines x.line d).raises (r.each x.line d b).raised);
     } in
-    let low : floor x.line (past n) ≤ last_floor new.raises.items = omega (arith, last, r.low x.line d b) in
-    let high : last_floor new.raises.items ≤ max (floor x.line (past n)) (cleaned x.line hart (past n)) = omega (arith, last, made, r.high x.line d b) in
-    let own : x.stores ≤ last_floor new.raises.items = omega (arith, last) in
+    let low : floor x.line (past n) ≤ last_floor new.raises = omega (arith, last, r.low x.line d b) in
+    let high : last_floor new.raises ≤ max (floor x.line (past n)) (cleaned x.line hart (past n)) = omega (arith, last, made, r.high x.line d b) in
+    let own : x.stores ≤ last_floor new.raises = omega (arith, last) in
     record {
       size = grind (arith, common_steps, r.size);
       each = λ l e h. elim (cases_Bool (x.line == l)) [
@@ -74,9 +73,9 @@ raising_more start past n hart cleans read lines x d new is b made same raised r
             elim (cases_Bool (x.line == (get_or cleans i c).line)) [
               | inl at ↦
                   let s : (get_or cleans i c).line ≡ x.line = grind (arith, nat_tests, at) in
-                  let old : (get_or cleans i c).stores ≤ last_floor (get_or lines x.line d).raises.items =
-                  subst (λ (m : ℕ). (get_or cleans i c).stores ≤ last_floor (get_or lines m d).raises.items) s (r.met i c d f) in
-                  let met : (get_or cleans i c).stores ≤ last_floor new.raises.items = omega (arith, old, last) in
+                  let old : (get_or cleans i c).stores ≤ last_floor (get_or lines x.line d).raises =
+                  subst (λ (m : ℕ). (get_or cleans i c).stores ≤ last_floor (get_or lines m d).raises) s (r.met i c d f) in
+                  let met : (get_or cleans i c).stores ≤ last_floor new.raises = omega (arith, old, last) in
                   rw (set_own lines x.line new (get_or cleans i c).line e within s) met
               | inr other ↦ rw (set_other lines x.line new (get_or cleans i c).line e other) (r.met i c e f)
             ]
@@ -88,21 +87,21 @@ raising_more start past n hart cleans read lines x d new is b made same raised r
 
 -- after all of them
 pub raised_all : (start : List (List ℕ)) (past : ℕ → List PersistenceStep) (n hart : ℕ) (cleans : List Clean) (read : ℕ)
-    (lines : List LineIndex) → past (n + 1) ≡ step.Fence hart ∷ past n → IsHartPending (length start) (past n) hart cleans →
+    (lines : List LineView) → past (n + 1) ≡ step.Fence hart ∷ past n → IsHartPending (length start) (past n) hart cleans →
     length cleans ≤ read → IsRaising start past n hart cleans read lines → AreLines start past (n + 1) lines
 raised_all start past n hart cleans read lines e w all r =
-    let last : (l : ℕ) (d : LineIndex) → l < length start → last_floor (get_or lines l d).raises.items ≡ floor l (past (n + 1)) =
+    let last : (l : ℕ) (d : LineView) → l < length start → last_floor (get_or lines l d).raises ≡ floor l (past (n + 1)) =
     λ l d b.
-    let met : cleaned l hart (past n) ≤ last_floor (get_or lines l d).raises.items =
-    w.rest l (last_floor (get_or lines l d).raises.items)
-    (λ i c h at. subst (λ (m : ℕ). (get_or cleans i c).stores ≤ last_floor (get_or lines m d).raises.items) at (r.met i c d (omega (arith, h, all))))
+    let met : cleaned l hart (past n) ≤ last_floor (get_or lines l d).raises =
+    w.rest l (last_floor (get_or lines l d).raises)
+    (λ i c h at. subst (λ (m : ℕ). (get_or cleans i c).stores ≤ last_floor (get_or lines m d).raises) at (r.met i c d (omega (arith, h, all))))
     (r.low l d b) in
     rw e (omega (arith, met, r.low l d b, r.high l d b)) in
     record {
       size = r.size;
       each = λ l d b. record {
-        stored = stores_stay (line_at start l) l past n (get_or lines l d).stores.items (rw e refl) (λ k. rw e refl) (r.each l d b).stored;
-        raised = raises_more l past n (get_or lines l d).raises.items (last l d b) (r.each l d b).raised;
+        stored = stores_stay (line_at start l) l past n (get_or lines l d).stores (rw e refl) (λ k. rw e refl) (r.each l d b).stored;
+        raised = raises_more l past n (get_or lines l d).raises (last l d b) (r.each l d b).raised;
       };
       settled = last;
     }

@@ -6,9 +6,13 @@ use Rattle.store_trace.specs.Image.{line_after}
 use Rattle.store_trace.specs.Stores.{stores}
 use Rattle.store_trace.specs.declared.crash_model.step.PersistenceStep.{PersistenceStep}
 use Rattle.line_memory.specs.Lines.{line_at}
-use Rattle.crash_image.specs.declared.trace_index.line.LineIndex.{LineIndex}
 use Rattle.crash_image.specs.declared.trace_index.line.Raise.{Raise}
 use Rattle.crash_image.specs.declared.trace_index.line.StoredLine.{StoredLine}
+
+-- the stores of a line and the raises of its floor, the oldest first
+pub record LineView : Type 0 where
+  pub stores : List StoredLine
+  pub raises : List Raise
 
 abbrev pub store_event : StoredLine → ℕ
 store_event store = store.event
@@ -41,6 +45,11 @@ abbrev pub raised_to : List Raise → ℕ → ℕ → List Raise
 raised_to raises event number =
     if nat_lt (last_floor raises) number then raises ++ record { event = event; floor = number } ∷ [] else raises
 
+-- all of them are of events before the moment
+pub record AreBefore (line : LineView) (moment : ℕ) : Type 0 where
+  pub stores : (i : ℕ) (d : StoredLine) → i < length line.stores → (slice_index_or line.stores i d).event < moment
+  pub raises : (i : ℕ) (d : Raise) → i < length line.raises → (slice_index_or line.raises i d).event < moment
+
 -- the stores of line l among the first n events, each with the line's bytes after it
 pub record AreStores (start : List ℕ) (l : ℕ) (past : ℕ → List PersistenceStep) (n : ℕ) (made : List StoredLine) : Type 0 where
   pub count : length made ≡ stores l (past n)
@@ -61,12 +70,12 @@ pub record AreRaises (l : ℕ) (past : ℕ → List PersistenceStep) (n : ℕ) (
   pub floors : (m : ℕ) → m ≤ n → IsFloorAt raises m (floor l (past m))
 
 -- both lists of line l
-pub record IsLine (start : List ℕ) (l : ℕ) (past : ℕ → List PersistenceStep) (n : ℕ) (line : LineIndex) : Type 0 where
-  pub stored : AreStores start l past n line.stores.items
-  pub raised : AreRaises l past n line.raises.items
+pub record IsLine (start : List ℕ) (l : ℕ) (past : ℕ → List PersistenceStep) (n : ℕ) (line : LineView) : Type 0 where
+  pub stored : AreStores start l past n line.stores
+  pub raised : AreRaises l past n line.raises
 
 -- those of all lines, after the first n events
-pub record AreLines (start : List (List ℕ)) (past : ℕ → List PersistenceStep) (n : ℕ) (lines : List LineIndex) : Type 0 where
+pub record AreLines (start : List (List ℕ)) (past : ℕ → List PersistenceStep) (n : ℕ) (lines : List LineView) : Type 0 where
   pub size : length lines ≡ length start
-  pub each : (l : ℕ) (d : LineIndex) → l < length start → IsLine (line_at start l) l past n (slice_index_or lines l d)
-  pub settled : (l : ℕ) (d : LineIndex) → l < length start → last_floor (slice_index_or lines l d).raises.items ≡ floor l (past n)
+  pub each : (l : ℕ) (d : LineView) → l < length start → IsLine (line_at start l) l past n (slice_index_or lines l d)
+  pub settled : (l : ℕ) (d : LineView) → l < length start → last_floor (slice_index_or lines l d).raises ≡ floor l (past n)

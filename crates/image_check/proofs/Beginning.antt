@@ -71,7 +71,7 @@ unended plan before event op s n b c =
     s from.1.0 from.0 NotPending from.1.1 at
     (unbegun_ends (take from.1.0 before) from.0 op from.2 (λ begins. n (twice_from before event op b (begun_front before from.1.0 op begins))))
 
-ended_parts : (events : List Event) (i : ℕ) → ended events ≡ ended (take i events) ++ ended (drop i events)
+pub ended_parts : (events : List Event) (i : ℕ) → ended events ≡ ended (take i events) ++ ended (drop i events)
 ended_parts events i =
     ap (λ (es : List Event). ended es) (sym (take-append-drop i events)) ∙ filter_map-append ended_by (take i events) (drop i events)
 
@@ -103,7 +103,7 @@ opens_rest plan events i event op o = record {
 }
 
 -- the events from one on, as a slice
-rest_is : (events : List Event) (i : ℕ) → take (length events - i) (drop i events) ≡ drop i events
+pub rest_is : (events : List Event) (i : ℕ) → take (length events - i) (drop i events) ≡ drop i events
 rest_is events i =
     let whole : length (drop i events) ≡ length events - i = length-drop i events in
     take_all (length events - i) (drop i events) (omega arith)

@@ -20,6 +20,7 @@ pub mod Planning
 pub mod Reading
 pub mod Refusing
 pub mod Rising
+pub mod Settling
 pub mod Sharing
 pub mod Single
 pub mod Standing

@@ -102,3 +102,27 @@ pub added_unplanned : (plan : List Operation) (op : ℕ) (v w m : List (List Ent
     with_entries m (cond (is_shown v w (planned plan op)) (planned plan op) []) ≡ Some m
 added_unplanned plan op v w m e =
     ap (λ (p : Option Operation). with_entries m (cond (is_shown v w (option_map_or entries_of p [])) (option_map_or entries_of p []) [])) e
+
+-- whether an operation is shown
+pub shown_planned : (plan : List Operation) (op : ℕ) (o : Operation) (v w : List (List Entry)) → operation_of plan op ≡ Some o →
+    is_shown v w (planned plan op) ≡ is_shown v w (entries_of o)
+shown_planned plan op o v w e = ap (λ (es : List PlannedEntry). is_shown v w es) (planned_some plan op o e)
+
+pub shown_unplanned : (plan : List Operation) (op : ℕ) (v w : List (List Entry)) → operation_of plan op ≡ None → is_shown v w (planned plan op) ≡ false
+shown_unplanned plan op v w e = ap (λ (es : List PlannedEntry). is_shown v w es) (planned_none plan op e)
+
+-- operations of which none is shown
+pub none_more : (p : ℕ → Bool) (under : List UnderWay) (i : ℕ) (d : UnderWay) → i < length under →
+    filter p (take i (map (λ u. u.op) under)) ≡ [] → p (get_or under i d).op ≡ false → filter p (take (i + 1) (map (λ u. u.op) under)) ≡ []
+none_more p under i d h s f =
+    let here : get_or (map (λ u. u.op) under) i d.op ≡ (get_or under i d).op = get_or-map (λ (u : UnderWay). u.op) under i d d.op h in
+    let inside : i < length (map (λ u. u.op) under) = subst (λ (k : ℕ). i < k) (sym (length-map under (λ (u : UnderWay). u.op))) h in
+    ap (filter p) (take_more (map (λ u. u.op) under) i d.op inside)
+    ∙ filter-append p (take i (map (λ u. u.op) under)) (get_or (map (λ u. u.op) under) i d.op ∷ [])
+    ∙ ap (λ (xs : List ℕ). xs ++ filter p (get_or (map (λ u. u.op) under) i d.op ∷ [])) s
+    ∙ ap (λ (b : Bool). cond b (get_or (map (λ u. u.op) under) i d.op ∷ []) []) (ap p here ∙ f)
+
+pub none_last : (p : ℕ → Bool) (under : List UnderWay) (i : ℕ) → length under ≤ i → filter p (take i (map (λ u. u.op) under)) ≡ [] →
+    filter p (map (λ u. u.op) under) ≡ []
+none_last p under i h s =
+    ap (filter p) (sym (take_all i (map (λ u. u.op) under) (subst (λ (k : ℕ). k ≤ i) (sym (length-map under (λ (u : UnderWay). u.op))) h))) ∙ s

@@ -1,6 +1,6 @@
 -- When the marks of operations in a trace make no sense. An event is judged by those before it.
 -- This project's own rules, after NOVA, FAST 2016: operations that are under way together lock the inodes that they change.
-use Rattle.std.specs.Prelude.{◌≡◌, ℕ, ◌<◌, true, List, map, Some, slice_get, take}
+use Rattle.std.specs.Prelude.{◌≡◌, ℕ, ◌<◌, ◌≤◌, true, List, length, map, Some, slice_get, slice_index_or, take}
 use Rattle.std.specs.List.{Contains}
 use Rattle.plan.specs.declared.operation.Operation.{Operation}
 use Rattle.store_trace.specs.declared.event.Event.{Event}
@@ -8,6 +8,7 @@ use Rattle.store_trace.specs.declared.event.Event.TheVariants.{Store, Clean, Fen
 use Rattle.store_trace.specs.Marks.{begun, begun_by, ended, is_open, pending}
 use Rattle.image_check.specs.Planned.{inodes_of}
 use Rattle.image_check.specs.declared.fault.OpFault.{OpFault}
+use Rattle.image_check.specs.declared.order.Noted.{Noted}
 use Rattle.image_check.specs.declared.fault.OpFault.TheVariants.{Unknown, BegunTwice, NotPending, SharesInode}
 
 -- the plan has an operation of this number
@@ -89,3 +90,13 @@ pub record IsFirstFault (plan : List Operation) (events : List Event) (fault : O
   pub place : slice_get events number ≡ Some event
   pub here : IsLowestFault plan (take number events) event fault
   pub earlier : AreSound plan events number
+
+-- each operation that begins before this place has ended
+pub record AreSettled (before : List Event) (place : ℕ) : Type 0 where
+  pub within : place ≤ length before
+  pub ended : (k : ℕ) (d : Event) (op : ℕ) → k < place → begun_by (slice_index_or before k d) ≡ Some op → Contains (ended before) op
+
+-- what is known of the operations that begin in these events
+pub record AreNoted (before : List Event) (noted : Noted) : Type 0 where
+  pub greatest : (op : ℕ) → Contains (begun before) op → op ≤ noted.greatest
+  pub settled : AreSettled before noted.settled

@@ -14,7 +14,7 @@ ghost use Rattle.std.specs.Cmp.{partial_equiv_from_equiv};
 ghost use Rattle.std.specs.Hash as fed;
 ghost use Rattle.std.specs.List.{Contains, flat_map};
 ghost use Rattle.std.specs.List.Sorted.{IsPartitionPoint};
-ghost use Rattle.std.specs.Prelude.{◌≡◌, ◌↔◌, ◌==◌, ◌<◌, ◌≤◌, ℕ, not, List, [], ◌∷◌, ◌++◌, Option, Some, Result, filter, length, map, option_and_then, IfOk, IsPermutation, IsTrue, OnOk, if◌then◌else◌};
+ghost use Rattle.std.specs.Prelude.{◌≡◌, ◌↔◌, ◌==◌, ◌<◌, ◌≤◌, ℕ, not, false, List, [], ◌∷◌, ◌++◌, Option, Some, Result, filter, length, map, option_and_then, IfOk, IsPermutation, IsTrue, OnOk, if◌then◌else◌};
 ghost use Rattle.std.specs.Result.{result_ok};
 
 use crate::operations::{append, find_operation, fits, shares_with, shows};
@@ -167,7 +167,7 @@ impl Outcomes {
             return Ok(false);
         };
         let under_way = self.under_way.as_slice();
-        if under_way.is_empty() {
+        if !any_shown(plan, settled, under_way, volume) {
             return Ok(settled.equals(volume));
         }
         let expected = as_shown(alloc, plan, settled, under_way, volume)?;
@@ -227,6 +227,29 @@ fn settled(mut volume: Volume, plan: &Plan, op: u64) -> Result<Option<Volume>, A
     }
     append(&mut volume, &operation)?;
     Ok(Some(volume))
+}
+
+/// Whether the volume shows one of the operations, over the settled one.
+fn any_shown(plan: &Plan, settled: &Volume, under_way: &[UnderWay], shown: &Volume) -> bool
+    ensures { result ≡ false → filter (λ op. is_shown settled.now shown.now (planned plan.now.operations op)) (map (λ u. u.op) under_way.now) ≡ [] }
+{
+    for operation in under_way {
+        if shows_planned(plan, settled, operation.op, shown) {
+            return true;
+        }
+    }
+    false
+}
+
+/// Whether the volume shows the operation of this number, over the settled one.
+#[tactic(auto, using(crate::proofs::Looping::shown_planned, crate::proofs::Looping::shown_unplanned))]
+fn shows_planned(plan: &Plan, settled: &Volume, op: u64, shown: &Volume) -> bool
+    ensures { result ≡ is_shown settled.now shown.now (planned plan.now.operations op) }
+{
+    match find_operation(plan, op) {
+        Some(operation) => shows(settled, shown, &operation),
+        None => false,
+    }
 }
 
 /// The volume with the entries of those operations that the other volume shows.

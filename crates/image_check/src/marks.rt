@@ -2,7 +2,8 @@
 
 ghost use Rattle.store_trace.specs.Marks.{begun, begun_by, ended, ended_by};
 ghost use Rattle.std.specs.List.{Contains};
-ghost use Rattle.std.specs.Prelude.{◌≡◌, ◌↔◌, IsTrue};
+ghost use Rattle.store_trace.specs.declared.event.Event.{Event as AnEvent};
+ghost use Rattle.std.specs.Prelude.{◌≡◌, ◌↔◌, ◌<◌, length, slice_index_or, IfNone, IfSome, IsTrue};
 
 use store_trace::Event;
 
@@ -32,17 +33,18 @@ pub fn has_ended(events: &[Event], op: u64) -> bool
     false
 }
 
-/// Whether this hart begins the operation in one of the events.
-#[tactic(auto, using(store_trace::proofs::Marking::event_here, store_trace::proofs::Marking::no_events, store_trace::proofs::Marking::no_more_events))]
-pub fn has_begun_by(events: &[Event], hart: u32, op: u64) -> bool
-    ensures { IsTrue result ↔ Contains events.now (Event.Begin hart op) }
+/// The place of the last of the events in which this hart begins the operation.
+pub fn last_begin(events: &[Event], hart: u32, op: u64) -> Option<usize>
+    ensures some { IfSome result (λ place. place < length events.now) }
+    ensures begins { IfSome result (λ place. (d : AnEvent) → slice_index_or events.now place d ≡ Event.Begin hart op) }
+    ensures none { IfNone result (¬ Contains events.now (Event.Begin hart op)) }
 {
-    for event in events {
-        if begins_by(*event, hart, op) {
-            return true;
+    for at in (0..events.len()).rev() {
+        if begins_by(events[at], hart, op) {
+            return Some(at);
         }
     }
-    false
+    None
 }
 
 fn begins(event: Event, op: u64) -> bool

@@ -42,8 +42,8 @@ pub fn lines_of(
 
 fn no_lines(alloc: Global, count: u32) -> Result<Vec<LineIndex>, AllocError>
     ensures size { IfOk result (λ made. length made.items ≡ count) }
-    ensures stores { IfOk result (λ made. All (λ line. line.stores.items ≡ []) made.items) }
-    ensures raises { IfOk result (λ made. All (λ line. line.raises.items ≡ []) made.items) }
+    ensures stores { IfOk result (λ made. All (λ line. line.stores ≡ []) made.items) }
+    ensures raises { IfOk result (λ made. All (λ line. line.raises ≡ []) made.items) }
 {
     let mut made = Vec::with_capacity(alloc, count as usize)?;
     for _line in 0..count {
@@ -91,7 +91,7 @@ fn read(
             Ok(())
         }
         Event::Clean { hart, line } => {
-            let stores = lines[line as usize].stores.len() as u32;
+            let stores = lines[line as usize].count() as u32;
             pending[hart as usize].push(Clean { line, stores })?;
             Ok(())
         }

@@ -9,7 +9,7 @@ ghost use Rattle.store_trace.specs.TraceView.{NamesLine};
 ghost use Rattle.std.specs.Prelude.{◌≡◌, ℕ, ◌<◌, ◌≤◌, length, All, IfOk};
 
 use crate::trace_index::build::lines_of;
-use crate::trace_index::line::{LineIndex, bytes_after, floor_after, raises_before, stores_before};
+use crate::trace_index::line::LineIndex;
 use line_memory::Medium;
 use std::alloc::{AllocError, Global};
 use std::marker::Model;
@@ -77,7 +77,7 @@ impl<'a> TraceIndex<'a> {
         requires moment { moment ≤ length self.now.events }
         ensures { result ≡ stores line (at_moment self.now.events moment) }
     {
-        stores_before(&self.lines[line as usize].stores, moment) as u32
+        self.lines[line as usize].stores_at(moment) as u32
     }
 
     /// How many of the line's first stores are in the medium for certain at the moment.
@@ -87,8 +87,7 @@ impl<'a> TraceIndex<'a> {
         requires moment { moment ≤ length self.now.events }
         ensures { result ≡ floor line (at_moment self.now.events moment) }
     {
-        let raises = &self.lines[line as usize].raises;
-        floor_after(raises, raises_before(raises, moment))
+        self.lines[line as usize].floor_at(moment)
     }
 
     /// The bytes of the line after its first `number` stores, at each moment that has them.
@@ -101,10 +100,7 @@ impl<'a> TraceIndex<'a> {
             number ≤ stores line (at_moment self.now.events moment) →
             result.now ≡ line_after (line_at self.now.start line) line number (at_moment self.now.events moment) }
     {
-        bytes_after(
-            self.medium.read_line(line),
-            &self.lines[line as usize].stores,
-            number as usize,
-        )
+        let start = self.medium.read_line(line);
+        self.lines[line as usize].bytes(start, number as usize)
     }
 }

@@ -1,12 +1,13 @@
 //! What the index keeps of one line: its stores, and the fences at which its floor rises.
 
-ghost use Rattle.crash_image.specs.Lines.{IsPlace, bytes_before, floor_before, raise_event, raised_to, store_event};
+ghost use Rattle.crash_image.specs.Lines.{AreBefore, IsPlace, bytes_before, floor_before, raise_event, raised_to, store_event};
 ghost use Rattle.store_trace.specs.TraceView.{IsWidth};
 ghost use Rattle.word_bits.specs.Bytes.{stored};
-ghost use Rattle.std.specs.Prelude.{◌≡◌, ℕ, ◌-◌, ◌<◌, ◌≤◌, ◌%◌, ◌++◌, ◌∷◌, [], length, IfOk};
+ghost use Rattle.std.specs.Prelude.{◌≡◌, ℕ, ◌-◌, ◌<◌, ◌≤◌, ◌%◌, ◌++◌, ◌∷◌, [], length, IfOk, IsTrue};
 
 use line_memory::store_bytes;
 use std::alloc::{AllocError, Global};
+use std::marker::Model;
 
 /// One store of a line.
 #[derive(Clone, Copy)]
@@ -27,21 +28,40 @@ pub struct Raise {
 }
 
 /// The stores of a line, and the raises of its floor, the oldest first.
+///
+/// A contract sees the two lists.
 #[derive(Drop)]
 pub struct LineIndex {
-    pub stores: Vec<StoredLine>,
-    pub raises: Vec<Raise>,
+    stores: Vec<StoredLine>,
+    raises: Vec<Raise>,
+    /// The place of the last of all their events, by which most moments need no search.
+    last: u32,
+    /// The floor behind it.
+    floor: u32,
+}
+
+impl Model for LineIndex {
+    ghost use Rattle.crash_image.specs.Lines.{AreBefore, LineView, last_floor};
+    ghost use Rattle.std.specs.Prelude.{◌≡◌, ◌+◌};
+
+    ghost Value = { LineView };
+
+    ghost view = { λ i. record { stores = i.stores.items; raises = i.raises.items } };
+
+    ghost invariant = { λ i. AreBefore (record { stores = i.stores.items; raises = i.raises.items }) (i.last + 1) × (i.floor ≡ last_floor i.raises.items) };
 }
 
 impl LineIndex {
     /// A line before the first event. Empty lists take no memory.
     pub fn new(alloc: Global) -> LineIndex
-        ensures stores { result.stores.items ≡ [] }
-        ensures raises { result.raises.items ≡ [] }
+        ensures stores { result.stores ≡ [] }
+        ensures raises { result.raises ≡ [] }
     {
         LineIndex {
             stores: Vec::new(alloc),
             raises: Vec::new(alloc),
+            last: 0,
+            floor: 0,
         }
     }
 
@@ -57,24 +77,76 @@ impl LineIndex {
         requires width { IsWidth width }
         requires aligned { offset % width ≡ 0 }
         requires offset { offset < 64 }
-        ensures stores { IfOk result (λ _. self.new.stores.items ≡ self.old.stores.items ++ record { event = event; bytes = stored (bytes_before start.now self.old.stores.items (length self.old.stores.items)) offset width value } ∷ []) }
-        ensures raises { self.new.raises.items ≡ self.old.raises.items }
+        ensures stores { IfOk result (λ _. self.new.stores ≡ self.old.stores ++ record { event = event; bytes = stored (bytes_before start.now self.old.stores (length self.old.stores)) offset width value } ∷ []) }
+        ensures raises { self.new.raises ≡ self.old.raises }
     {
         let mut bytes = *bytes_after(start, &self.stores, self.stores.len());
         store_in_line(&mut bytes, offset, width, value);
         self.stores.push(StoredLine { event, bytes })?;
+        self.last = self.last.max(event);
         Ok(())
     }
 
     /// Raises the floor to at least this one, by the fence of the event at this place.
     pub fn raise(&mut self, event: u32, floor: u32) -> Result<(), AllocError>
-        ensures stores { self.new.stores.items ≡ self.old.stores.items }
-        ensures raises { IfOk result (λ _. self.new.raises.items ≡ raised_to self.old.raises.items event floor) }
+        ensures stores { self.new.stores ≡ self.old.stores }
+        ensures raises { IfOk result (λ _. self.new.raises ≡ raised_to self.old.raises event floor) }
     {
-        if floor > floor_after(&self.raises, self.raises.len()) {
+        if floor > self.floor {
             self.raises.push(Raise { event, floor })?;
+            self.last = self.last.max(event);
+            self.floor = floor;
         }
         Ok(())
+    }
+
+    /// How many stores it has.
+    pub fn count(&self) -> usize
+        ensures { result ≡ length self.now.stores }
+    {
+        self.stores.len()
+    }
+
+    /// Whether all of them are of events before the moment, as mostly.
+    #[inline(always)]
+    fn are_before(&self, moment: u32) -> bool
+        ensures { IsTrue result → AreBefore self.now moment }
+    {
+        self.last < moment
+    }
+
+    /// How many of the stores are of events before the moment.
+    #[inline(always)]
+    pub fn stores_at(&self, moment: u32) -> usize
+        ensures within { result ≤ length self.now.stores }
+        ensures place { (count : ℕ) → IsPlace store_event self.now.stores moment count → result ≡ count }
+    {
+        if self.are_before(moment) {
+            self.stores.len()
+        } else {
+            stores_before(&self.stores, moment)
+        }
+    }
+
+    /// The floor after those raises that are of events before the moment.
+    #[inline(always)]
+    pub fn floor_at(&self, moment: u32) -> u32
+        ensures { (count : ℕ) → IsPlace raise_event self.now.raises moment count → result ≡ floor_before self.now.raises count }
+    {
+        if self.are_before(moment) {
+            self.floor
+        } else {
+            floor_after(&self.raises, raises_before(&self.raises, moment))
+        }
+    }
+
+    /// The bytes after the first `count` stores, of a line that started with `start`.
+    #[inline(always)]
+    pub fn bytes<'a>(&'a self, start: &'a [u8; 64], count: usize) -> &'a [u8; 64]
+        requires { count ≤ length self.now.stores }
+        ensures { result.now ≡ bytes_before start.now self.now.stores count }
+    {
+        bytes_after(start, &self.stores, count)
     }
 }
 
@@ -91,7 +163,7 @@ fn store_in_line(bytes: &mut [u8; 64], offset: u32, width: u32, value: u64)
 
 /// How many of the stores are of events before the moment.
 #[inline(always)]
-pub fn stores_before(stores: &[StoredLine], moment: u32) -> usize
+fn stores_before(stores: &[StoredLine], moment: u32) -> usize
     ensures within { result ≤ length stores.now }
     ensures place { (count : ℕ) → IsPlace store_event stores.now moment count → result ≡ count }
 {
@@ -100,7 +172,7 @@ pub fn stores_before(stores: &[StoredLine], moment: u32) -> usize
 
 /// How many of the raises are of events before the moment.
 #[inline(always)]
-pub fn raises_before(raises: &[Raise], moment: u32) -> usize
+fn raises_before(raises: &[Raise], moment: u32) -> usize
     ensures within { result ≤ length raises.now }
     ensures place { (count : ℕ) → IsPlace raise_event raises.now moment count → result ≡ count }
 {
@@ -109,7 +181,7 @@ pub fn raises_before(raises: &[Raise], moment: u32) -> usize
 
 /// The floor after the first `count` raises.
 #[inline(always)]
-pub fn floor_after(raises: &[Raise], count: usize) -> u32
+fn floor_after(raises: &[Raise], count: usize) -> u32
     requires { count ≤ length raises.now }
     ensures { result ≡ floor_before raises.now count }
 {
@@ -122,7 +194,7 @@ pub fn floor_after(raises: &[Raise], count: usize) -> u32
 
 /// The bytes after the first `count` stores, of a line that started with `start`.
 #[inline(always)]
-pub fn bytes_after<'a>(start: &'a [u8; 64], stores: &'a [StoredLine], count: usize) -> &'a [u8; 64]
+fn bytes_after<'a>(start: &'a [u8; 64], stores: &'a [StoredLine], count: usize) -> &'a [u8; 64]
     requires { count ≤ length stores.now }
     ensures { result.now ≡ bytes_before start.now stores.now count }
 {

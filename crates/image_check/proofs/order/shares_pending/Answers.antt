@@ -1,5 +1,6 @@
 use Rattle.std.proofs.Common.{refl, sym, ◌∙◌, true≢false, arith}
 use Rattle.image_check.proofs.Beginning.{shared_from_here, unshared_more}
+use Rattle.image_check.proofs.Settling.{settled_unshared}
 use Rattle.image_check.proofs.Sharing.{all_shared}
 use Rattle.image_check.proofs.order.shares_pending.Goals as goal
 
@@ -20,3 +21,6 @@ pub loop-index-preserved : goal.loop-index-preserved
 loop-index-preserved c =
     unshared_more c.args.plan.now.operations c.args.before.now c.loop-index.index _ c.args.op c.loop-index-test.true c.loop-index.invariant
     (λ o. true≢false (sym (c.opens_sharer.ensures.1 o) ∙ c.if-opens_sharer.false))
+
+pub loop-index-init : goal.loop-index-init
+loop-index-init c = settled_unshared c.args.plan.now.operations c.args.before.now c.args.from c.args.op c.requires.settled

@@ -1,4 +1,4 @@
-use Rattle.std.proofs.Common.{◌≡◌, ℕ, ◌+◌, ◌<◌, List, ◌++◌, length, get_or, inl, inr, ap, ◌∙◌, arith}
+use Rattle.std.proofs.Common.{◌≡◌, ℕ, ◌+◌, ◌<◌, List, ◌++◌, length, get_or, inl, inr, ap, ◌∙◌}
 use Rattle.store_trace.specs.Stores.{stores}
 use Rattle.store_trace.specs.History.{at_moment, steps_of}
 use Rattle.store_trace.specs.declared.event.Event.{Event}
@@ -28,11 +28,9 @@ returns-in_ok-push-in-Clean c =
     let hart = rw c.in-Clean.is at (c.requires.each c.args.at none c.requires.there) in
     let e = more c.args.events.now c.args.at _ c.requires.there c.in-Clean.is in
     let line = c.requires.before.lines_are.each c.in-Clean.line c.index-lines-line-in-Clean.result named in
-    let vec = (get_or c.args.lines.now c.in-Clean.line c.index-lines-line-in-Clean.result).stores in
-    let count : c.len-stores.result ≡ stores c.in-Clean.line (at_moment c.args.events.now c.args.at) =
-    omega (arith, c.len-stores.ensures, vec.ok.0, line.stored.count) in
+    let count : c.count-stores.result ≡ stores c.in-Clean.line (at_moment c.args.events.now c.args.at) = c.count-stores.ensures ∙ line.stored.count in
     indexed_cleaned c.args.medium.now (at_moment c.args.events.now) c.args.at c.args.lines.now c.args.pending.now
-    c.in-Clean.hart c.in-Clean.line c.len-stores.result c.index-pending-hart.result c.push.new.self hart named e
+    c.in-Clean.hart c.in-Clean.line c.count-stores.result c.index-pending-hart.result c.push.new.self hart named e
     count c.in_ok-push-in-Clean.ensures.items c.requires.before
 
 pub returns-in_ok-raise_all-in-Fence : goal.returns-in_ok-raise_all-in-Fence

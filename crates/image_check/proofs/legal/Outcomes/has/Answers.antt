@@ -1,5 +1,4 @@
-use Rattle.std.proofs.Common.{◌≡◌, List, [], ◌∷◌, Bool, true, Option, Some, map, length, refl, sym, ◌∙◌, subst, true≢false, arith}
-use Rattle.std.specs.Prelude.{◌==◌}
+use Rattle.std.proofs.Common.{◌≡◌, List, [], Option, Some, map, sym, ap, subst, true≢false}
 use Rattle.std.specs.Prelude.{filter}
 use Rattle.std.specs.List.{flat_map}
 use Rattle.std.specs.Result.{result_ok}
@@ -10,11 +9,6 @@ use Rattle.image_check.specs.Planned.{planned}
 use Rattle.image_check.specs.declared.legal.UnderWay.{UnderWay}
 use Rattle.image_check.proofs.Judging.{compared_legal, none_legal}
 use Rattle.image_check.proofs.legal.Outcomes.has.Goals as goal
-
--- a list that is told to be empty
-empty_items : (xs ys : List UnderWay) (b : Bool) → xs ≡ ys → b ≡ (length xs == 0) → b ≡ true → ys ≡ []
-empty_items [] ys b same is told = sym same
-empty_items (x ∷ xs) ys b same is told = absurd (true≢false (sym told ∙ is ∙ grind (arith)))
 
 pub returns-in_default : goal.returns-in_default
 returns-in_default c = λ start events o a. (
@@ -33,10 +27,15 @@ returns c = λ start events o a.
     c.as_slice-under_way.ensures.value c.in_ok-expected.ensures)
     c.equals-2.ensures
 
-pub returns-then-is_empty : goal.returns-then-is_empty
-returns-then-is_empty c = λ start events o a.
-    compared_legal c.args.plan.now.operations start events c.in-Some.settled c.args.volume.now c.in-Some.settled [] c.equals.result
-    (subst (λ (ops : List UnderWay). AreOutcomes c.args.plan.now.operations (result_ok start) events (Some c.in-Some.settled) ops)
-    (empty_items c.as_slice-under_way.result.now c.args.self.now.under_way.items c.is_empty.result c.as_slice-under_way.ensures.value c.is_empty.ensures c.if-is_empty.true)
-    (subst (λ (s : Option (List (List Entry))). AreOutcomes c.args.plan.now.operations (result_ok start) events s c.args.self.now.under_way.items) c.in-Some.is o))
-    a refl c.equals.ensures
+pub returns-then-not-any_shown : goal.returns-then-not-any_shown
+returns-then-not-any_shown c = λ start events o a.
+    let none : flat_map (planned c.args.plan.now.operations)
+    (filter (λ op. is_shown c.in-Some.settled c.args.volume.now (planned c.args.plan.now.operations op)) (map (λ u. u.op) c.as_slice-under_way.result.now)) ≡ [] =
+    ap (flat_map (planned c.args.plan.now.operations)) (c.any_shown.ensures c.if-not-any_shown.true) in
+    compared_legal c.args.plan.now.operations start events c.in-Some.settled c.args.volume.now c.in-Some.settled c.args.self.now.under_way.items c.equals.result
+    (subst (λ (s : Option (List (List Entry))). AreOutcomes c.args.plan.now.operations (result_ok start) events s c.args.self.now.under_way.items) c.in-Some.is o)
+    a
+    (subst (λ (ops : List UnderWay). with_entries c.in-Some.settled (flat_map (planned c.args.plan.now.operations)
+    (filter (λ op. is_shown c.in-Some.settled c.args.volume.now (planned c.args.plan.now.operations op)) (map (λ u. u.op) ops))) ≡ Some c.in-Some.settled)
+    c.as_slice-under_way.ensures.value (ap (with_entries c.in-Some.settled) none))
+    c.equals.ensures

@@ -4,21 +4,18 @@ use Rattle.store_trace.specs.Stores.{stores}
 use Rattle.line_memory.specs.Lines.{line_at}
 use Rattle.store_trace.specs.History.{at_moment, history}
 use Rattle.crash_image.proofs.Queries.{bytes_found, last_moment, line_at_moment}
-use Rattle.crash_image.specs.Lines.{bytes_before}
+use Rattle.crash_image.specs.Lines.{LineView, bytes_before}
 use Rattle.crash_image.specs.TraceIndexView.{IndexView}
-use Rattle.crash_image.specs.declared.trace_index.line.LineIndex.{LineIndex}
-use Rattle.crash_image.specs.declared.trace_index.line.StoredLine.{StoredLine}
 use Rattle.crash_image.proofs.trace_index.index.TraceIndex.line.Goals as goal
 
 pub returns-clause-whole : goal.returns-clause-whole
 returns-clause-whole c =
-    let here = c.deref.ensures.value ∙ ap (λ (line : LineIndex). line.stores.items) c.index.ensures in
-    let found = c.bytes_after.ensures
-    ∙ ap (λ (bytes : List ℕ). bytes_before bytes c.deref.result.now c.args.number) c.read_line.ensures.value
-    ∙ ap (λ (xs : List StoredLine). bytes_before (line_at c.self.inside.medium.now c.args.line) xs c.args.number) here in
+    let found = c.bytes.ensures
+    ∙ ap (λ (bytes : List ℕ). bytes_before bytes c.index.result.now.stores c.args.number) c.read_line-start.ensures.value
+    ∙ ap (λ (line : LineView). bytes_before (line_at c.self.inside.medium.now c.args.line) line.stores c.args.number) c.index.ensures in
     let last = last_moment c.self.inside.events.now in
     subst (λ (v : IndexView). c.args.line < length v.start → c.args.number ≤ stores c.args.line (history v.events) →
-    c.bytes_after.result.now ≡ line_after (line_at v.start c.args.line) c.args.line c.args.number (history v.events)) c.self.view_is
+    c.bytes.result.now ≡ line_after (line_at v.start c.args.line) c.args.line c.args.number (history v.events)) c.self.view_is
     (λ there le. found
     ∙ bytes_found c.self.inside.medium.now (at_moment c.self.inside.events.now) (length c.self.inside.events.now) c.self.inside.lines.items c.args.line c.args.number c.index.result.now
     c.self.invariant.1 there (rw last le)
