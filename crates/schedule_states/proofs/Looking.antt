@@ -1,5 +1,5 @@
 -- Values by their places in lists, and lists that keep each value in its place.
-use Rattle.std.proofs.Common.{◌≡◌, ◌⊎◌, inl, inr, ℕ, zero, suc, ◌<◌, Bool, true, false, cond, List, [], ◌∷◌, ◌++◌, Some, option_map, map, length, slice_get, refl, sym, ap, ◌∙◌, subst, arith}
+use Rattle.std.proofs.Common.{◌≡◌, ◌⊎◌, inl, inr, ℕ, zero, suc, ◌<◌, Bool, true, false, cond, List, [], ◌∷◌, ◌++◌, None, Some, find, option_map, map, length, slice_get, refl, sym, ap, ◌∙◌, subst, arith}
 use Rattle.std.proofs.lemmas.Option.{same_Some, slice_get-map, slice_get_within}
 use Rattle.bus.proofs.Places.{there_is}
 use Rattle.schedule_states.specs.Numbers.{AreKept}
@@ -41,6 +41,14 @@ module _ {X : Type 0} where
   pub kept_inserted : (test : Bool) (xs : List X) (y : X) → AreKept xs (cond test xs (xs ++ y ∷ []))
   kept_inserted true xs y n x got = got
   kept_inserted false xs y n x got = got_left xs (y ∷ []) n (slice_get_within xs n x got) ∙ got
+
+  -- what a search for the first one that passes a test finds
+  pub found_passes : (test : X → Bool) (xs : List X) (x : X) → find test xs ≡ Some x → test x ≡ true
+  found_passes test [] x found = absurd cc
+  found_passes test (y ∷ xs) x found = go (test y) refl found (found_passes test xs x) where
+    go : (b : Bool) → test y ≡ b → cond b (Some y) (find test xs) ≡ Some x → (find test xs ≡ Some x → test x ≡ true) → test x ≡ true
+    go true passes same later = subst (λ (z : X). test z ≡ true) (same_Some y x same) passes
+    go false fails rest later = later rest
 
   -- lists that keep each value
   pub within_kept : (old new : List X) (n : ℕ) → AreKept old new → n < length old → n < length new

@@ -15,6 +15,7 @@ mod line_state;
 mod line_table;
 mod medium_lists;
 mod memory_lists;
+mod mixing;
 mod moments;
 mod numbers;
 mod origin;

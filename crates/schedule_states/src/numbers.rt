@@ -113,8 +113,8 @@ impl<'a, T: Eq + Hash + Drop> Table<'a, T> {
 fn number_in<T: Eq + Hash>(values: &IndexSet<T>, value: &T) -> Option<usize>
     ensures { IfSome result (λ number. HasNumber T.eq values.now.keys number value.now) }
 {
-    let (number, found) = values.get_full(value)?;
-    if *value == *found { Some(number) } else { None }
+    let (number, _found) = values.get_full(value)?;
+    Some(number)
 }
 
 /// A number, as a wider one.

@@ -1,12 +1,12 @@
 //! States of a program.
 
-ghost use Rattle.std.specs.Prelude.{◌≡◌, ◌+◌, ◌*◌, ◌++◌};
-ghost use Rattle.std.specs.Hash as fed;
+ghost use Rattle.std.specs.Prelude.{◌≡◌, ◌+◌, ◌*◌};
 ghost use Rattle.std.specs.Cmp.Rules.{hashing};
 ghost use Rattle.std.proofs.Common.{rules};
-ghost use Rattle.hart.specs.Registers.{register};
+ghost use Rattle.schedule_states.specs.Fed.{with_registers};
 
-use hart::HartState;
+use crate::mixing::mixed;
+use hart::{HartState, Registers};
 use isa_table::Reg;
 use std::hash::{Hash, Hasher};
 
@@ -21,22 +21,29 @@ pub struct HartPart {
     pub text: u32,
 }
 
-/// By its pc and the registers of arguments and of results that most routines write: a hash need tell no more apart.
+/// By its pc, its text and its registers, joined to one word.
 impl Hash for HartPart {
-    ghost hash_input = { λ p. fed.u64 p.state.pc ++ fed.u64 (register p.state.registers 5) ++ fed.u64 (register p.state.registers 6)
-        ++ fed.u64 (register p.state.registers 10) ++ fed.u64 (register p.state.registers 15) ++ fed.u32 p.text };
+    ghost use Rattle.schedule_states.specs.Fed.{part};
+
+    ghost hash_input = { part };
 
     ghost respects_eq = { Prim.search (hashing, rules) };
 
     fn hash<H: Hasher>(&self, state: &mut H) {
-        let registers = &self.state.registers;
-        state.write_u64(self.state.pc);
-        state.write_u64(registers.get(Reg { number: 5 }));
-        state.write_u64(registers.get(Reg { number: 6 }));
-        state.write_u64(registers.get(Reg { number: 10 }));
-        state.write_u64(registers.get(Reg { number: 15 }));
-        state.write_u32(self.text);
+        let first = mixed(self.state.pc, u64::from(self.text));
+        state.write_u64(with_registers(first, &self.state.registers));
     }
+}
+
+/// A sum with the registers of a hart.
+fn with_registers(sum: u64, registers: &Registers) -> u64
+    ensures { result ≡ with_registers sum registers.now 32 }
+{
+    let mut joined = sum;
+    for number in 0..32 {
+        joined = mixed(joined, registers.get(Reg { number }));
+    }
+    joined
 }
 
 /// A state of a program, without its past.
@@ -57,7 +64,7 @@ pub struct StateNumbers {
     pub standing: u32,
 }
 
-/// Two numbers by one write.
+/// By all of them, joined to one word.
 impl Hash for StateNumbers {
     ghost use Rattle.schedule_states.specs.Fed.{numbers};
 
@@ -67,11 +74,12 @@ impl Hash for StateNumbers {
 
     fn hash<H: Hasher>(&self, state: &mut H) {
         let harts = &self.harts;
-        state.write_u64(pair(harts[0], harts[1]));
-        state.write_u64(pair(harts[2], harts[3]));
-        state.write_u64(pair(harts[4], harts[5]));
-        state.write_u64(pair(harts[6], harts[7]));
-        state.write_u64(pair(self.memory, self.standing));
+        let first = mixed(pair(harts[0], harts[1]), pair(harts[2], harts[3]));
+        let all = mixed(
+            mixed(first, pair(harts[4], harts[5])),
+            pair(harts[6], harts[7]),
+        );
+        state.write_u64(mixed(all, pair(self.memory, self.standing)));
     }
 }
 
