@@ -49,8 +49,11 @@ abbrev pub with_registers : ℕ → List ℕ → ℕ → ℕ
 with_registers sum registers zero = sum
 with_registers sum registers (suc n) = mixed (with_registers sum registers n) (register registers n)
 
+abbrev pub part_fed : List ℕ → ℕ → ℕ → HashWrites
+part_fed registers pc text = u64 (with_registers (mixed pc text) registers 32)
+
 abbrev pub part : HartPart → HashWrites
-part p = u64 (with_registers (mixed p.state.pc p.text) p.state.registers 32)
+part p = part_fed p.state.registers p.state.pc p.text
 
 -- two numbers of a list as one
 abbrev pub pair_at : List ℕ → ℕ → ℕ

@@ -23,11 +23,15 @@ pub struct HartPart {
 
 /// By its pc, its text and its registers, joined to one word.
 impl Hash for HartPart {
-    ghost use Rattle.schedule_states.specs.Fed.{part};
+    ghost use Rattle.schedule_states.specs.Fed.{part, part_fed};
 
     ghost hash_input = { part };
 
-    ghost respects_eq = { Prim.search (hashing, rules) };
+    ghost respects_eq = { λ one other same.
+        let registers : one.state.registers ≡ other.state.registers = Prim.search (hashing, rules) in
+        let pc : one.state.pc ≡ other.state.pc = Prim.search (hashing, rules) in
+        let text : one.text ≡ other.text = Prim.search (hashing, rules) in
+        λ i. part_fed (registers i) (pc i) (text i) };
 
     fn hash<H: Hasher>(&self, state: &mut H) {
         let first = mixed(self.state.pc, u64::from(self.text));
