@@ -7,6 +7,7 @@
 
 mod answers;
 mod atomic_orders;
+mod ends;
 mod hostile;
 mod images;
 mod library_messages;
