@@ -18,7 +18,7 @@ use Rattle.store_trace.specs.Stores.{stores}
 use Rattle.store_trace.specs.declared.event.Event.{Event}
 use Rattle.store_trace.specs.declared.crash_model.step.PersistenceStep.{PersistenceStep}
 use Rattle.schedule_states.proofs.Covering.{covers_run, ended_well}
-use Rattle.schedule_states.proofs.Looking.{got_appended, got_kept, within_kept}
+use Rattle.schedule_states.proofs.Looking.{got_appended, got_kept, longer_kept, within_kept}
 use Rattle.schedule_states.proofs.Held.{number_on_medium}
 use Rattle.schedule_states.proofs.Media.{media_kept}
 use Rattle.schedule_states.proofs.Putting.{state_kept}
@@ -28,6 +28,7 @@ use Rattle.schedule_states.specs.Exploring.{IfAll, IfNoWayOut, IsAll, IsFinal, I
 use Rattle.schedule_states.specs.Happening.{full_image}
 use Rattle.schedule_states.specs.HeldLines.{AreBelow, on_medium}
 use Rattle.schedule_states.specs.Images.{content_of, highest_in, image_from, image_in, line_in, others_of}
+use Rattle.schedule_states.specs.Judged.{AreJudged}
 use Rattle.schedule_states.specs.Judging.{AlwaysGood, AreGoodBelow, AreGoodImages, AreGoodMoments, IsGoodMoment, IsGoodState, LeavesGood, StaysGood}
 use Rattle.schedule_states.specs.LineStates.{unfenced}
 use Rattle.schedule_states.specs.Media.{AreOnMedium, IsOnMedium, MediaView}
@@ -41,6 +42,7 @@ use Rattle.schedule_states.specs.declared.exploring.Explored.TheVariants as know
 use Rattle.schedule_states.specs.declared.held_lines.HeldLine.{HeldLine}
 use Rattle.schedule_states.specs.declared.line_state.Content.{Content}
 use Rattle.schedule_states.specs.declared.line_state.LineState.{LineState}
+use Rattle.schedule_states.specs.declared.moments.Judged.{Judged}
 use Rattle.schedule_states.specs.declared.moments.Moment.{Moment}
 use Rattle.schedule_states.specs.declared.program_state.StateNumbers.{StateNumbers}
 
@@ -217,15 +219,16 @@ state_still stands good old new n grown numbered lists there is numbers found =
     let parts : AreThere old numbers = numbered.each n numbers was in
     moment_kept stands good old new old.parts.lists new.parts.lists numbers.memory numbers.standing grown grown.parts.lists lists.below parts.memory parts.standing (is numbers was)
 
-pub good_next : {T : Type 0} (stands : T → List Event → Type 0) (good : List Event → List (List ℕ) → List (List ℕ) → Type 0) (old new : ReachedView T) (count : ℕ) → HaveGrown old new →
-    AreNumbered old → AreLists old.parts.table.states old.parts.lists → count < length old.states → AreGoodBelow stands good old count → IsGoodState stands good old count →
-    AreGoodBelow stands good new (count + 1)
-good_next stands good old new count grown numbered lists there below here n few = elim (cases_lt n count) [
-  | inl earlier ↦ state_still stands good old new n grown numbered lists (omega (arith, earlier, there)) (below n earlier)
-  | inr last ↦
-      let same : n ≡ count = omega (arith, few, last) in
-      state_still stands good old new n grown numbered lists (omega (arith, same, there)) (subst (λ (m : ℕ). IsGoodState stands good old m) (sym same) here)
-]
+-- what is judged stays so as more states are reached
+pub judged_kept : {T : Type 0} (stands : T → List Event → Type 0) (good : List Event → List (List ℕ) → List (List ℕ) → Type 0) (old new : ReachedView T) (judged later : Judged) → HaveGrown old new →
+    AreNumbered old → AreLists old.parts.table.states old.parts.lists → later.media ≡ judged.media → later.moments ≡ judged.moments → later.good ≡ judged.good →
+    later.stop ≡ judged.stop → AreJudged stands good old judged → AreJudged stands good new later
+judged_kept stands good old new judged later grown numbered lists media moments count stop are = record {
+  moments = λ none. rw (media, moments) (moments_kept stands good old new judged.media judged.moments grown (are.moments (sym stop ∙ none)));
+  below = λ n below. let earlier : n < judged.good = rw count at below in
+      state_still stands good old new n grown numbered lists (omega (arith, earlier, are.within)) (are.below n earlier);
+  within = rw count (omega (arith, are.within, longer_kept old.states new.states grown.states));
+}
 
 -- the moment of the state joins those that are good
 pub moments_more : {T : Type 0} (stands : T → List Event → Type 0) (good : List Event → List (List ℕ) → List (List ℕ) → Type 0) (r : ReachedView T) (media : MediaView) (moments more : List Moment)

@@ -1,5 +1,5 @@
 -- Values by their places in lists, and lists that keep each value in its place.
-use Rattle.std.proofs.Common.{◌≡◌, ◌⊎◌, inl, inr, ℕ, zero, suc, ◌<◌, Bool, true, false, cond, List, [], ◌∷◌, ◌++◌, None, Some, find, option_map, map, length, slice_get, refl, sym, ap, ◌∙◌, subst, arith}
+use Rattle.std.proofs.Common.{◌≡◌, ◌⊎◌, inl, inr, ℕ, zero, suc, ◌<◌, ◌≤◌, Bool, true, false, cond, List, [], ◌∷◌, ◌++◌, None, Some, find, option_map, map, length, slice_get, refl, sym, ap, ◌∙◌, subst, arith}
 use Rattle.std.proofs.lemmas.Option.{same_Some, slice_get-map, slice_get_within}
 use Rattle.bus.proofs.Places.{there_is}
 use Rattle.schedule_states.specs.Numbers.{AreKept}
@@ -55,6 +55,10 @@ module _ {X : Type 0} where
   within_kept old new n kept there =
       let at : (x : X) × (slice_get old n ≡ Some x) = there_is old n there in
       slice_get_within new n at.0 (kept n at.0 at.1)
+
+  pub longer_kept : (old new : List X) → AreKept old new → length old ≤ length new
+  longer_kept [] new kept = omega arith
+  longer_kept (x ∷ xs) new kept = let last : length xs < length new = within_kept (x ∷ xs) new (length xs) kept (omega arith) in omega (arith, last)
 
   pub got_kept : (old new : List X) (n : ℕ) (x : X) → AreKept old new → n < length old → slice_get new n ≡ Some x → slice_get old n ≡ Some x
   got_kept old new n x kept there got =

@@ -9,6 +9,7 @@ pub mod Fed
 pub mod Happening
 pub mod HeldLines
 pub mod Images
+pub mod Judged
 pub mod Judging
 pub mod Leads
 pub mod LineStates

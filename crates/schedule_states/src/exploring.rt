@@ -12,8 +12,7 @@ ghost use Rattle.schedule_states.specs.Watching.{HasHeard};
 
 use crate::claims::ClaimedLine;
 use crate::guessing::guess;
-use crate::known_turns::KnownTurns;
-use crate::moments::{Judged, Limits, judge_state};
+use crate::moments::{Judged, Limits, judge_at};
 use crate::origin::Origin;
 use crate::parts::Parts;
 use crate::reached::{Reached, Stop};
@@ -68,7 +67,7 @@ const MOST_GUESSES: u32 = 64;
 
 /// Judges all states to which schedules that keep to the judge's rule of turns lead, if they aren't more than so many, those first that fewer
 /// requests lead to, if need be by further threads. Where the judge asks for that, each state must lead on to an end, where all harts have
-/// stopped. The watcher hears of each state before it is judged. What the judge notes of the states stands in the workspace.
+/// stopped. The watcher hears of each state before the search goes on from it. What the judge notes of the states stands in the workspace.
 pub fn explore<T: Threads + Sync, J: StateJudge + Sync, W: Watcher>(
     rt: &T,
     alloc: Global,
@@ -218,7 +217,7 @@ fn explore_from<T: Threads + Sync, J: StateJudge + Sync, W: Watcher>(
     watcher: &mut W,
 ) -> Result<Explored, AllocError>
     requires none { (reached.old.states ≡ []) × (judged.old.moments ≡ []) × (judged.old.media ≡ record { lists = []; numbers = [] })
-        × (judged.old.ways.next.items ≡ []) }
+        × (judged.old.ways.next.items ≡ []) × (judged.old.good ≡ 0) × (judged.old.known.turns.items ≡ []) }
     requires given { J.fits judge.now (length reached.old.parts.table.start.medium) workspace.old
         × AllHappen (J.allows judge.now) (J.happens judge.now) reached.old.parts.table.start.program reached.old.parts.table.start.medium reached.old.harts
         × IsAsked (J.demands judge.now) (J.allows judge.now) judged.old.ways.asked }
@@ -254,7 +253,8 @@ fn search<T: Threads + Sync, J: StateJudge + Sync, W: Watcher>(
 ) -> Result<Explored, AllocError>
     requires start { CoversAt (J.stands judge.now) reached.old 0 (started reached.old.parts.table.start.program reached.old.parts.table.start.medium reached.old.harts)
         × AreLed (J.stands judge.now) (J.allows judge.now) reached.old }
-    requires new { (judged.old.moments ≡ []) × (judged.old.media ≡ record { lists = []; numbers = [] }) × (judged.old.ways.next.items ≡ []) }
+    requires new { (judged.old.moments ≡ []) × (judged.old.media ≡ record { lists = []; numbers = [] }) × (judged.old.ways.next.items ≡ [])
+        × (judged.old.good ≡ 0) × (judged.old.known.turns.items ≡ []) }
     requires given { J.fits judge.now (length reached.old.parts.table.start.medium) workspace.old
         × AllHappen (J.allows judge.now) (J.happens judge.now) reached.old.parts.table.start.program reached.old.parts.table.start.medium reached.old.harts
         × IsAsked (J.demands judge.now) (J.allows judge.now) judged.old.ways.asked }
@@ -271,7 +271,6 @@ fn search<T: Threads + Sync, J: StateJudge + Sync, W: Watcher>(
 {
     let alloc = judged.alloc;
     let most = judged.limits.most;
-    let mut known = KnownTurns::none(alloc, judged.limits.workers);
     for number in 0..most {
         let met = reached.count();
         if met > most as usize {
@@ -281,11 +280,10 @@ fn search<T: Threads + Sync, J: StateJudge + Sync, W: Watcher>(
             return all_judged(judge, reached, judged);
         }
         tell(watcher, met, number, reached.bytes() + judged.bytes());
-        if let Some(stop) = judge_state(rt, judge, reached, judged, workspace, number)? {
+        if let Some(stop) = judge_at(rt, judge, reached, judged, workspace, number)? {
             return found(alloc, reached, number, stop);
         }
-        known.look_ahead(rt, judge, reached, number)?;
-        match reached.go_on_all(alloc, judge, number, known.of(number))? {
+        match reached.go_on_all(alloc, judge, number, judged.known.of(number))? {
             Ok(to) => judged.ways.note(to)?,
             Err(stop) => return found(alloc, reached, number, stop),
         }

@@ -3,7 +3,7 @@
 //! They look at states that were met and not gone on from, each at some of them, and change nothing. So the search itself, which takes what they
 //! have found in the order of the states, meets the same states in the same order, whatever their number is.
 
-ghost use Rattle.std.specs.Prelude.{◌≡◌, ◌<◌, ◌+◌, ℕ, [], Some, slice_get, IfSome};
+ghost use Rattle.std.specs.Prelude.{◌≡◌, ◌<◌, ◌≤◌, ◌+◌, ◌^◌, ℕ, [], Some, length, slice_get, IfOk, IfSome};
 ghost use Rattle.schedule_states.specs.Onward.{AreKnownFrom, AreTurnsFrom};
 ghost use Rattle.schedule_states.specs.Turns.{MayClaim};
 
@@ -23,7 +23,7 @@ const LEAST_OF_ROUND: usize = 64;
 #[derive(Drop)]
 pub struct KnownTurns {
     alloc: Global,
-    workers: u32,
+    pub workers: u32,
     /// The number of the first of these states.
     first: u32,
     turns: Vec<Option<Turns>>,
@@ -50,59 +50,65 @@ impl KnownTurns {
         self.turns.get(at as usize)?.as_ref()
     }
 
-    /// Has workers look at the states from this number on, unless they have looked at this one already, or few wait.
-    pub fn look_ahead<T: Threads + Sync, J: StateJudge + Sync>(
-        &mut self,
-        rt: &T,
-        judge: &J,
-        reached: &Reached<'_, J>,
-        number: u32,
-    ) -> Result<(), AllocError>
-        requires claims { MayClaim (J.allows judge.now) reached.now.parts.claims }
-        requires known { AreKnownFrom (J.stands judge.now) (J.allows judge.now) (J.ends judge.now) reached.now self.old.first self.old.turns.items }
-        ensures known { AreKnownFrom (J.stands judge.now) (J.allows judge.now) (J.ends judge.now) reached.now self.new.first self.new.turns.items }
+    /// Room for what is found of so many states that wait; None where they are too few, or there is one worker alone.
+    pub fn room_for(&self, waiting: usize) -> Result<Option<Vec<Option<Turns>>>, AllocError>
+        ensures { IfOk result (λ room. IfSome room (λ turns. (0 < length turns.items) × (length turns.items ≤ waiting) × (length turns.items < 2 ^ 32) × (0 < self.now.workers))) }
     {
-        let waiting = reached.count().saturating_sub(number as usize);
-        if self.workers < 2 || waiting < LEAST_OF_ROUND || self.has_looked_at(number) {
-            return Ok(());
+        if self.workers < 2 || waiting < LEAST_OF_ROUND {
+            return Ok(None);
         }
-        let mut turns = vec![in self.alloc; None; waiting.min(MOST_OF_ROUND)]?;
-        self.look_at(rt, judge, reached, number, &mut turns);
-        self.first = number;
-        self.turns = turns;
-        Ok(())
+        let turns = vec![in self.alloc; None; waiting.min(MOST_OF_ROUND)]?;
+        Ok(Some(turns))
     }
 
-    fn has_looked_at(&self, number: u32) -> bool {
-        (number as usize) < self.first as usize + self.turns.len()
-    }
-
-    /// Has workers look at the states from this number on, as many as there are places.
-    fn look_at<T: Threads + Sync, J: StateJudge + Sync>(
-        &self,
-        rt: &T,
-        judge: &J,
-        reached: &Reached<'_, J>,
-        first: u32,
-        turns: &mut [Option<Turns>],
-    )
-        requires claims { MayClaim (J.allows judge.now) reached.now.parts.claims }
-        requires workers { 0 < self.now.workers }
-        ensures known { AreKnownFrom (J.stands judge.now) (J.allows judge.now) (J.ends judge.now) reached.now first turns.new }
+    /// Takes what was found of the states from this number on in the place of what was.
+    pub fn take(&mut self, first: u32, turns: Vec<Option<Turns>>)
+        ensures first { self.new.first ≡ first }
+        ensures turns { self.new.turns.items ≡ turns.items }
     {
-        let alloc = self.alloc;
-        thread::for_each_mut(
-            rt,
-            turns,
-            self.workers as usize,
-            &|at: usize, place: &mut Option<Turns>|
-                requires { MayClaim (J.allows judge.now) reached.now.parts.claims }
-                ensures { IfSome place.new (AreTurnsFrom (J.stands judge.entry.now) (J.allows judge.entry.now) (J.ends judge.entry.now) reached.entry.now (first + at)) }
-            {
-                *place = turns_at(alloc, judge, reached, first as usize, at);
-            },
-        );
+        self.first = first;
+        self.turns = turns;
     }
+}
+
+/// A look at states that follow one another.
+#[derive(Clone, Copy)]
+pub struct Look {
+    pub alloc: Global,
+    pub workers: u32,
+    /// The number of the first of these states.
+    pub first: u32,
+}
+
+/// Has workers look at states, as many as there are places.
+pub fn look_at<T: Threads + Sync, J: StateJudge + Sync>(
+    rt: &T,
+    judge: &J,
+    reached: &Reached<'_, J>,
+    look: Look,
+    turns: &mut [Option<Turns>],
+)
+    requires claims { MayClaim (J.allows judge.now) reached.now.parts.claims }
+    requires workers { 0 < look.workers }
+    ensures known { AreKnownFrom (J.stands judge.now) (J.allows judge.now) (J.ends judge.now) reached.now look.first turns.new }
+    ensures count { length turns.new ≡ length turns.old }
+{
+    let Look {
+        alloc,
+        workers,
+        first,
+    } = look;
+    thread::for_each_mut(
+        rt,
+        turns,
+        workers as usize,
+        &|at: usize, place: &mut Option<Turns>|
+            requires { MayClaim (J.allows judge.now) reached.now.parts.claims }
+            ensures { IfSome place.new (AreTurnsFrom (J.stands judge.entry.now) (J.allows judge.entry.now) (J.ends judge.entry.now) reached.entry.now (first + at)) }
+        {
+            *place = turns_at(alloc, judge, reached, first as usize, at);
+        },
+    );
 }
 
 /// What is found of the turns from a state so far behind the first one.

@@ -5,13 +5,14 @@ use Rattle.machine.specs.Run.{started}
 use Rattle.schedule_states.proofs.Closing.{closed_all, closed_next, covers_at_kept}
 use Rattle.schedule_states.proofs.Covered.{ends_either, good_either, may_claim, reduce_at}
 use Rattle.schedule_states.proofs.Happening.{happening}
-use Rattle.schedule_states.proofs.Judging.{below_noted, good_next, leads_found, moments_kept, nowhere_found, nowhere_more, told_found, told_more}
+use Rattle.schedule_states.proofs.Judging.{judged_kept, leads_found, nowhere_found, nowhere_more, told_found, told_more}
 use Rattle.schedule_states.proofs.Looking.{within_kept}
 use Rattle.schedule_states.proofs.Onward.{known_kept, known_none, known_of, some_then}
 use Rattle.schedule_states.proofs.Turning.{turns_next}
 use Rattle.schedule_states.specs.Covering.{IsClosed, IsClosedAt}
 use Rattle.schedule_states.specs.Ending.{AreTurnsBelow}
-use Rattle.schedule_states.specs.Judging.{AlwaysGood, AreGoodBelow, AreGoodMoments, IsGoodState}
+use Rattle.schedule_states.specs.Judged.{AreJudged}
+use Rattle.schedule_states.specs.Judging.{AlwaysGood}
 use Rattle.schedule_states.specs.StartLines.{StartView}
 use Rattle.schedule_states.specs.Watching.{nothing}
 use Rattle.schedule_states.specs.declared.ways.Ways.{Ways}
@@ -25,16 +26,20 @@ loop-number-init g c = record {
   covers = c.requires.start.0;
   led = c.requires.start.1;
   closed = λ number few. absurd (omega (arith, few));
-  good = λ n few. absurd (omega (arith, few));
-  moments = record {
-    held = rw c.requires.new.1 (record { below = λ n held found. absurd cc; each = λ memory number found. absurd cc });
-    each = λ n moment found. let none : slice_get [] n ≡ Some moment = rw c.requires.new.0 at found in absurd cc;
+  judged = record {
+    moments = λ none. record {
+      held = rw c.requires.new.1 (record { below = λ n held found. absurd cc; each = λ memory number found. absurd cc });
+      each = λ n moment found. let none : slice_get [] n ≡ Some moment = rw c.requires.new.0 at found in absurd cc;
+    };
+    below = λ n few. let none : n < 0 = rw c.requires.new.3 at few in absurd (omega (arith, none));
+    within = rw c.requires.new.3 (omega arith);
   };
+  before = omega arith;
   asked = refl;
   turns = λ asked. record { count_is = rw c.requires.new.2 refl; each = λ n to found. let none : slice_get [] n ≡ Some to = rw c.requires.new.2 at found in absurd cc };
   within = omega arith;
   limits = refl;
-  known = known_none (g.J.StateJudge.stands c.args.judge.now) (g.J.StateJudge.allows c.args.judge.now) (g.J.StateJudge.ends c.args.judge.now) c.args.reached.now _ _ c.none-known.ensures;
+  known = known_none (g.J.StateJudge.stands c.args.judge.now) (g.J.StateJudge.allows c.args.judge.now) (g.J.StateJudge.ends c.args.judge.now) c.args.reached.now _ _ c.requires.new.4;
   fits = c.requires.given.0;
   kept = λ events full image good. good;
   told = nothing;
@@ -53,7 +58,7 @@ returns-then-number-met-clause-good g c =
     (λ t es event plain. (g.met.J.StateJudge g.world.𝓛 g.world.𝓜 g.world.𝓡 ((λ s x. x), (λ x. x), (λ x. x), λ x. x)).unmarked c.args.judge.now t es event plain)
     (reduce_at (g.J.StateJudge.allows c.args.judge.now) (g.J.StateJudge.good c.args.judge.now) c.loop-number.workspace c.loop-number.reached.parts.claims
     (rw (sym c.loop-number.invariant.claims) at c.requires.reduced))
-    (ap (λ (s : StartView). s.medium) c.loop-number.invariant.start) c.loop-number.invariant.covers.0 closed (λ n few. c.loop-number.invariant.good n (omega (arith, few, past))) in
+    (ap (λ (s : StartView). s.medium) c.loop-number.invariant.start) c.loop-number.invariant.covers.0 closed (λ n few. c.loop-number.invariant.judged.below n (omega (arith, few, past, c.loop-number.invariant.before))) in
     IfOk-weaker c.all_judged.result _ _ (λ explored is. told_more explored _ _ (λ each. (
       good,
       λ demanded.
@@ -99,7 +104,7 @@ returns-clause-good g c =
     (λ t es event plain. (g.met.J.StateJudge g.world.𝓛 g.world.𝓜 g.world.𝓡 ((λ s x. x), (λ x. x), (λ x. x), λ x. x)).unmarked c.args.judge.now t es event plain)
     (reduce_at (g.J.StateJudge.allows c.args.judge.now) (g.J.StateJudge.good c.args.judge.now) c.loop-number.workspace c.loop-number.reached.parts.claims
     (rw (sym c.loop-number.invariant.claims) at c.requires.reduced))
-    (ap (λ (s : StartView). s.medium) c.loop-number.invariant.start) c.loop-number.invariant.covers.0 closed (λ n few. c.loop-number.invariant.good n (omega (arith, few, past))) in
+    (ap (λ (s : StartView). s.medium) c.loop-number.invariant.start) c.loop-number.invariant.covers.0 closed (λ n few. c.loop-number.invariant.judged.below n (omega (arith, few, past, c.loop-number.invariant.before))) in
     IfOk-weaker c.all_judged-2.result _ _ (λ explored is. told_more explored _ _ (λ each. (
       good,
       λ demanded.
@@ -160,26 +165,26 @@ returns-clause-kept g c = (rw c.loop-number.invariant.start at c.loop-number.inv
 
 pub returns-in_err-stop-clause-kept : goal.returns-in_err-stop-clause-kept
 returns-in_err-stop-clause-kept g c = (
-  rw c.loop-number.invariant.start at c.judge_state.ensures.fits,
-  λ events full image good. c.judge_state.ensures.kept events full image (c.loop-number.invariant.kept events full image good),
+  rw c.loop-number.invariant.start at c.judge_at.ensures.kept.0,
+  λ events full image good. c.judge_at.ensures.kept.1 events full image (c.loop-number.invariant.kept events full image good),
 )
 
 pub returns-in-Some-clause-kept : goal.returns-in-Some-clause-kept
 returns-in-Some-clause-kept g c = (
-  rw c.loop-number.invariant.start at c.judge_state.ensures.fits,
-  λ events full image good. c.judge_state.ensures.kept events full image (c.loop-number.invariant.kept events full image good),
+  rw c.loop-number.invariant.start at c.judge_at.ensures.kept.0,
+  λ events full image good. c.judge_at.ensures.kept.1 events full image (c.loop-number.invariant.kept events full image good),
 )
 
 pub returns-in_err-to-clause-kept : goal.returns-in_err-to-clause-kept
 returns-in_err-to-clause-kept g c = (
-  rw c.loop-number.invariant.start at c.judge_state.ensures.fits,
-  λ events full image good. c.judge_state.ensures.kept events full image (c.loop-number.invariant.kept events full image good),
+  rw c.loop-number.invariant.start at c.judge_at.ensures.kept.0,
+  λ events full image good. c.judge_at.ensures.kept.1 events full image (c.loop-number.invariant.kept events full image good),
 )
 
 pub returns-in-Err-clause-kept : goal.returns-in-Err-clause-kept
 returns-in-Err-clause-kept g c = (
-  rw c.loop-number.invariant.start at c.judge_state.ensures.fits,
-  λ events full image good. c.judge_state.ensures.kept events full image (c.loop-number.invariant.kept events full image good),
+  rw c.loop-number.invariant.start at c.judge_at.ensures.kept.0,
+  λ events full image good. c.judge_at.ensures.kept.1 events full image (c.loop-number.invariant.kept events full image good),
 )
 
 pub loop-number-preserved : goal.loop-number-preserved
@@ -188,10 +193,7 @@ loop-number-preserved g c =
     let here : IsClosedAt (g.J.StateJudge.stands c.args.judge.now) (g.J.StateJudge.allows c.args.judge.now) (g.J.StateJudge.ends c.args.judge.now) c.go_on_all.new.self c.loop-number.number =
     rw c.in-Ok.is at c.in_ok-to.ensures.closed in
     let passed : c.in_ok-stop.field-0 ≡ None = search rules in
-    let judged : AreGoodMoments (g.J.StateJudge.stands c.args.judge.now) (g.J.StateJudge.good c.args.judge.now c.judge_state.new.workspace) c.loop-number.reached c.judge_state.new.judged.media c.judge_state.new.judged.moments
-    × IsGoodState (g.J.StateJudge.stands c.args.judge.now) (g.J.StateJudge.good c.args.judge.now c.judge_state.new.workspace) c.loop-number.reached c.loop-number.number = c.in_ok-stop.ensures.good passed in
-    let below : AreGoodBelow (g.J.StateJudge.stands c.args.judge.now) (g.J.StateJudge.good c.args.judge.now c.judge_state.new.workspace) c.loop-number.reached c.loop-number.number =
-    below_noted (g.J.StateJudge.stands c.args.judge.now) (g.J.StateJudge.good c.args.judge.now c.loop-number.workspace) (g.J.StateJudge.good c.args.judge.now c.judge_state.new.workspace) c.loop-number.reached c.loop-number.number c.judge_state.ensures.kept c.loop-number.invariant.good in
+    let judged : AreJudged (g.J.StateJudge.stands c.args.judge.now) (g.J.StateJudge.good c.args.judge.now c.judge_at.new.workspace) c.loop-number.reached c.judge_at.new.judged = c.in_ok-stop.ensures.judged.0 in
     let start : c.go_on_all.new.self.parts.table.start ≡ c.loop-number.reached.parts.table.start = c.go_on_all.ensures.grown.parts.table.start in record {
       start = start ∙ c.loop-number.invariant.start;
       harts = c.go_on_all.ensures.grown.harts ∙ c.loop-number.invariant.harts;
@@ -202,42 +204,41 @@ loop-number-preserved g c =
       led = (rw c.in-Ok.is at c.in_ok-to.ensures.led) c.loop-number.invariant.led;
       closed = closed_next (g.J.StateJudge.stands c.args.judge.now) (g.J.StateJudge.allows c.args.judge.now) (g.J.StateJudge.ends c.args.judge.now) c.loop-number.reached c.go_on_all.new.self c.loop-number.number
           c.loop-number.invariant.closed there here c.go_on_all.ensures.still;
-      good = good_next (g.J.StateJudge.stands c.args.judge.now) (g.J.StateJudge.good c.args.judge.now c.judge_state.new.workspace) c.loop-number.reached c.go_on_all.new.self c.loop-number.number
-          c.go_on_all.ensures.grown c.go_on_all.ensures.before.0 c.go_on_all.ensures.before.1 there below judged.1;
-      moments = moments_kept (g.J.StateJudge.stands c.args.judge.now) (g.J.StateJudge.good c.args.judge.now c.judge_state.new.workspace) c.loop-number.reached c.go_on_all.new.self c.judge_state.new.judged.media
-          c.judge_state.new.judged.moments c.go_on_all.ensures.grown judged.0;
-      asked = c.note.ensures.asked ∙ ap (λ (w : Ways). w.asked) c.judge_state.ensures.ways ∙ c.loop-number.invariant.asked;
+      judged = judged_kept (g.J.StateJudge.stands c.args.judge.now) (g.J.StateJudge.good c.args.judge.now c.judge_at.new.workspace) c.loop-number.reached c.go_on_all.new.self c.judge_at.new.judged _
+          c.go_on_all.ensures.grown c.go_on_all.ensures.before.0 c.go_on_all.ensures.before.1 refl refl refl refl judged;
+      before = omega (arith, c.in_ok-stop.ensures.good passed);
+      asked = c.note.ensures.asked ∙ ap (λ (w : Ways). w.asked) c.judge_at.ensures.same.0 ∙ c.loop-number.invariant.asked;
       turns = λ asked.
-          let was : c.judge_state.new.judged.ways.asked ≡ true = ap (λ (w : Ways). w.asked) c.judge_state.ensures.ways ∙ c.loop-number.invariant.asked ∙ asked in
-          let before : c.judge_state.new.judged.ways.next.items ≡ c.loop-number.judged.ways.next.items = ap (λ (w : Ways). w.next.items) c.judge_state.ensures.ways in
+          let was : c.judge_at.new.judged.ways.asked ≡ true = ap (λ (w : Ways). w.asked) c.judge_at.ensures.same.0 ∙ c.loop-number.invariant.asked ∙ asked in
+          let before : c.judge_at.new.judged.ways.next.items ≡ c.loop-number.judged.ways.next.items = ap (λ (w : Ways). w.next.items) c.judge_at.ensures.same.0 in
           let noted : c.note.new.self.next.items ≡ c.loop-number.judged.ways.next.items ++ c.in-Ok.to ∷ [] = c.in_ok-note-in-Ok.ensures.noted was ∙ ap (λ (next : List (List ℕ)). next ++ c.in-Ok.to ∷ []) before in
           rw noted (turns_next (g.J.StateJudge.stands c.args.judge.now) (g.J.StateJudge.allows c.args.judge.now) c.loop-number.reached c.go_on_all.new.self c.loop-number.judged.ways.next.items
           c.loop-number.number c.in-Ok.to c.go_on_all.ensures.before.0 c.go_on_all.ensures.grown c.go_on_all.ensures.before.2 there (rw c.in-Ok.is at c.in_ok-to.ensures.turns) (c.loop-number.invariant.turns asked));
       within = omega (arith, within_kept c.loop-number.reached.states c.go_on_all.new.self.states c.loop-number.number c.go_on_all.ensures.grown.states there);
-      limits = c.judge_state.ensures.limits ∙ c.loop-number.invariant.limits;
+      limits = c.judge_at.ensures.same.1 ∙ c.loop-number.invariant.limits;
       known = known_kept (g.J.StateJudge.stands c.args.judge.now) (g.J.StateJudge.allows c.args.judge.now) (g.J.StateJudge.ends c.args.judge.now) c.loop-number.reached c.go_on_all.new.self _ _
-          c.go_on_all.ensures.before.0 c.go_on_all.ensures.grown c.go_on_all.ensures.before.2 c.look_ahead.ensures.known;
-      fits = rw start c.judge_state.ensures.fits;
-      kept = λ events full image good. c.judge_state.ensures.kept events full image (c.loop-number.invariant.kept events full image good);
+          c.go_on_all.ensures.before.0 c.go_on_all.ensures.grown c.go_on_all.ensures.before.2 c.in_ok-stop.ensures.judged.1;
+      fits = rw start c.judge_at.ensures.kept.0;
+      kept = λ events full image good. c.judge_at.ensures.kept.1 events full image (c.loop-number.invariant.kept events full image good);
       told = c.tell.ensures c.args.watcher.now c.loop-number.invariant.told;
     }
 
-pub judge_state-requires-clause-happens : goal.judge_state-requires-clause-happens
-judge_state-requires-clause-happens g c κs within =
-    let there : c.loop-number.number < length c.loop-number.reached.states = search rules in
-    happening (g.J.StateJudge.stands c.args.judge.now) (g.J.StateJudge.allows c.args.judge.now) (g.J.StateJudge.happens c.args.judge.now) c.loop-number.reached c.loop-number.number c.loop-number.invariant.led
-    (rw (c.loop-number.invariant.start, c.loop-number.invariant.harts) c.requires.given.1) there
+pub judge_at-requires-clause-can : goal.judge_at-requires-clause-can
+judge_at-requires-clause-can g c κs within = (
+  record {
+    happened = λ n there. happening (g.J.StateJudge.stands c.args.judge.now) (g.J.StateJudge.allows c.args.judge.now) (g.J.StateJudge.happens c.args.judge.now) c.loop-number.reached n c.loop-number.invariant.led
+        (rw (c.loop-number.invariant.start, c.loop-number.invariant.harts) c.requires.given.1) there;
+    claims = may_claim (g.J.StateJudge.allows c.args.judge.now) _ c.loop-number.reached.parts.claims (rw (sym c.loop-number.invariant.claims) at c.requires.reduced);
+  },
+  c.loop-number.invariant.fits,
+)
 
 pub go_on_all-requires-clause-claims : goal.go_on_all-requires-clause-claims
 go_on_all-requires-clause-claims g c κs within = may_claim (g.J.StateJudge.allows c.args.judge.now) _ c.loop-number.reached.parts.claims
     (rw (sym c.loop-number.invariant.claims) at c.requires.reduced)
 
-pub look_ahead-requires-clause-claims : goal.look_ahead-requires-clause-claims
-look_ahead-requires-clause-claims g c κs within = may_claim (g.J.StateJudge.allows c.args.judge.now) _ c.loop-number.reached.parts.claims
-    (rw (sym c.loop-number.invariant.claims) at c.requires.reduced)
-
 pub go_on_all-requires-clause-known : goal.go_on_all-requires-clause-known
 go_on_all-requires-clause-known g c κs within = some_then _ _ c.of.result
     (λ turns at. known_of (g.J.StateJudge.stands c.args.judge.now) (g.J.StateJudge.allows c.args.judge.now) (g.J.StateJudge.ends c.args.judge.now) c.loop-number.reached _ c.loop-number.number _
-    turns.now c.look_ahead.ensures.known at)
+    turns.now c.in_ok-stop.ensures.judged.1 at)
     c.of.ensures
