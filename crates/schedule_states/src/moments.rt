@@ -182,7 +182,7 @@ fn judge_and_look<T: Threads + Sync, J: StateJudge + Sync>(
         rt,
         &mut ||
             requires { MayClaim (J.allows judge.now) reached.now.parts.claims × (0 < look.workers) }
-            ensures known { AreKnownFrom (J.stands judge.entry.now) (J.allows judge.entry.now) (J.ends judge.entry.now) reached.entry.now look.first turns.exit.now.items }
+            ensures { AreKnownFrom (J.stands judge.entry.now) (J.allows judge.entry.now) (J.ends judge.entry.now) reached.entry.now look.first turns.exit.now.items }
         { look_at(rt, judge, reached, look, turns) },
         &mut ||
             requires { (end ≤ length reached.now.states) × (judged.now.stop ≡ None)
