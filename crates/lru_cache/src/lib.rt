@@ -3,7 +3,7 @@
 //! The medium is lent to each call, and it is the same one each time. Addresses count its bytes from the first line's start.
 #![tactic(auto)]
 
-ghost use Rattle.std.specs.Prelude.{◌≡◌, ℕ, ◌<◌, ◌≤◌, ◌+◌, ◌*◌, ◌/◌, ◌%◌, List, Some, None, Option, true, false, length, replicate, slice_index, slice_index_or, slice_set, IfOk, IfErr, IfSome, IfNone};
+ghost use Rattle.std.specs.Prelude.{◌≡◌, ℕ, ◌<◌, ◌≤◌, ◌+◌, ◌*◌, ◌/◌, ◌%◌, List, Some, None, Option, true, false, length, replicate, slice_index, slice_index_or, slice_set, IfOk, IfErr, IfSome, IfNone, is_some};
 ghost use Rattle.index_list.specs.Lists.{first, has};
 ghost use Rattle.word_bits.specs.Bytes.{loaded, stored};
 ghost use Rattle.line_memory.specs.Lines.{line_at, line_bytes, IsMedium};
@@ -115,10 +115,8 @@ impl Cache {
         ensures over { IsOver self.new medium.new }
     {
         let line = at / LINE_SIZE as u32;
-        self.bring_in(medium, line);
-        let mut bytes = *self.shown_line(medium, line);
-        store_bytes(&mut bytes, at as usize % LINE_SIZE, width as usize, value);
-        self.change(line, bytes);
+        self.make_latest(medium, line);
+        self.change(line, at as usize % LINE_SIZE, width as usize, value);
     }
 
     /// Writes a dirty line's copy to the medium: it stays resident, and is neither dirty nor marked any more. Of another
@@ -252,8 +250,7 @@ impl Cache {
         self.leaving[line as usize]
     }
 
-    /// Makes a line resident, and the most recently used of its set, and is done at once where it is that already: loads ask this
-    /// most often. A store asks `bring_in`, since it would only guess wrong more often.
+    /// Makes a line resident, and the most recently used of its set, and is done at once where it is that already.
     #[inline(always)]
     fn make_latest(&mut self, medium: &mut Medium, line: u32)
         requires over { IsOver self.old medium.old }
@@ -379,15 +376,17 @@ impl Cache {
         self.resident += 1;
     }
 
-    /// Puts other bytes in a resident line, which is dirty then.
-    fn change(&mut self, line: u32, bytes: [u8; LINE_SIZE])
+    /// Writes the low `width` bytes of `value` from a place on in the copy of a resident line, which is dirty then.
+    fn change(&mut self, line: u32, at: usize, width: usize, value: u64)
         requires resident { is_resident self.old line ≡ true }
-        requires whole { length bytes ≡ 64 }
-        ensures changed { self.new ≡ after_change line bytes self.old }
+        requires fits { at + width ≤ 64 }
+        requires few { width ≤ 8 }
+        ensures changed { (bytes : List ℕ) → slice_index_or self.old.copies line None ≡ Some bytes →
+            self.new ≡ after_change line (stored bytes at width value) self.old }
         ensures sound { IsCache self.new }
     {
         let copies = &mut self.copies;
-        copies[line as usize] = Some(bytes);
+        store_in_copy(&mut copies[line as usize], at, width, value);
         self.orders.note_store(line);
     }
 
@@ -452,6 +451,20 @@ fn lowest_oldest(orders: &Orders) -> Option<u32>
         }
     }
     None
+}
+
+/// Writes the low `width` bytes of `value` from a place on in the copy of a line, which has one.
+#[inline(always)]
+fn store_in_copy(copy: &mut Option<[u8; LINE_SIZE]>, at: usize, width: usize, value: u64)
+    requires resident { is_some copy.old ≡ true }
+    requires fits { at + width ≤ 64 }
+    requires few { width ≤ 8 }
+    ensures { (bytes : List ℕ) → copy.old ≡ Some bytes → copy.new ≡ Some (stored bytes at width value) }
+{
+    match copy {
+        Some(bytes) => store_bytes(bytes, at, width, value),
+        None => unreachable!(),
+    }
 }
 
 fn no_copies(alloc: Global, lines: u32) -> Result<Vec<Option<[u8; LINE_SIZE]>>, AllocError>

@@ -11,8 +11,8 @@ use Rattle.line_memory.specs.Memory.{Memory}
 use Rattle.machine.specs.Histories.{is_renewing}
 use Rattle.machine.specs.Run.{Config, RunsTo, fetched}
 use Rattle.machine.specs.Represents.{Answers, IsRunning, MachineView, Represents, RunsBoth}
-use Rattle.machine.specs.declared.rows.Made.{Made}
-use Rattle.machine.specs.declared.rows.Made.TheVariants as results
+use Rattle.machine.specs.declared.rows.Answered.{Answered}
+use Rattle.machine.specs.declared.rows.Answered.TheVariants as answers
 use Rattle.machine.specs.declared.schedule.items.Step.TheVariants.{Hart}
 use Rattle.machine.specs.SharedView.{SharedView}
 use Rattle.store_trace.specs.declared.event.Event.{Event}
@@ -49,18 +49,12 @@ pub record IsLonger (old new : SharedView) : Type 0 where
   pub trace : new.trace ≡ old.trace ++ event ∷ []
   pub few : length new.trace ≤ 65536
 
--- what came of a step that was tried: it isn't made, or is made without an event, or with one
-abbrev pub IsTried : Made → Memory → ℕ → HartState → HartState → SharedView → SharedView → Type 0
-IsTried results.Nothing text h s t old new = (t ≡ s) × (new ≡ old)
-IsTried results.Quietly text h s t old new = IsStepOf text h s t old new × (new.trace ≡ old.trace)
-IsTried results.WithEvent text h s t old new = IsStepOf text h s t old new × IsLonger old new
-
--- the same of the request of its instruction
-abbrev pub IsAsked : Made → ℕ → HartState → HartState → SharedView → SharedView → Instr → Request → Type 0
-IsAsked results.Nothing h s t old new instr request = (t ≡ s) × (new ≡ old)
-IsAsked results.Quietly h s t old new instr request =
+-- what came of the request of hart h's instruction: it isn't answered, or is answered without an event, or with one
+abbrev pub IsAnswer : Answered → ℕ → HartState → HartState → SharedView → SharedView → Instr → Request → Type 0
+IsAnswer answers.Not h s t old new instr request = (t ≡ s) × (new ≡ old)
+IsAnswer answers.Quietly h s t old new instr request =
     Answers old new h s instr request t × (is_renewing request ≡ false) × (new.trace ≡ old.trace)
-IsAsked results.WithEvent h s t old new instr request = Answers old new h s instr request t × (is_renewing request ≡ false) × IsLonger old new
+IsAnswer answers.WithEvent h s t old new instr request = Answers old new h s instr request t × (is_renewing request ≡ false) × IsLonger old new
 
 -- n steps of hart h, of which the last one alone makes an event, before which its pc is this
 pub record EndsByEvent (text : Memory) (h n pc : ℕ) (s t : HartState) (old new : SharedView) : Type 0 where

@@ -1,10 +1,10 @@
 //! Steps of one hart in a row, up to the first that makes an event.
 
-ghost use Rattle.std.specs.Prelude.{◌≡◌, ◌<◌, ◌≤◌, None, false, replicate};
+ghost use Rattle.std.specs.Prelude.{◌≡◌, ◌<◌, ◌≤◌, None, Some, false, replicate};
 ghost use Rattle.hart.specs.Requests.{IsRequest};
 ghost use Rattle.machine.specs.Histories.{is_renewing};
 ghost use Rattle.machine.specs.Represents.{RunsBoth, text_bytes};
-ghost use Rattle.machine.specs.Rows.{IsAsked, IsRow, IsRowOf, IsTried, RunsBeforeEach};
+ghost use Rattle.machine.specs.Rows.{IsAnswer, IsRow, IsRowOf, RunsBeforeEach};
 
 use crate::machine::Machine;
 use crate::schedule::Step;
@@ -23,12 +23,12 @@ pub(crate) struct Row {
     pub(crate) event_pc: Option<u64>,
 }
 
-/// What came of a step that was tried in a row.
+/// Whether a request was answered.
 #[derive(Clone, Copy)]
-enum Made {
-    /// It is none of a row, and nothing changed.
-    Nothing,
-    /// It is made, without an event.
+enum Answered {
+    /// It was not, and nothing changed.
+    Not,
+    /// It was, without an event.
     Quietly,
     WithEvent,
 }
@@ -79,6 +79,16 @@ impl Row {
             event_pc: None,
         }
     }
+
+    /// So many steps, of which the last one has made an event.
+    fn ending_at(steps: u32, pc: u64) -> Row
+        ensures { result ≡ record { steps = steps; event_pc = Some pc } }
+    {
+        Row {
+            steps,
+            event_pc: Some(pc),
+        }
+    }
 }
 
 /// Makes a row of steps of a running hart, so many at most.
@@ -91,15 +101,17 @@ fn go_on(state: &mut HartState, copy: &TextCopy, shared: &mut Shared, hart: u32,
 {
     for made in 0..most {
         let pc = state.pc;
-        match make_one(state, copy, shared, hart) {
-            Made::Nothing => return Row::quiet(made),
-            Made::Quietly => {}
-            Made::WithEvent => {
-                return Row {
-                    steps: made + 1,
-                    event_pc: Some(pc),
-                };
-            }
+        let Ok(instr) = copy.instruction(pc) else {
+            return Row::quiet(made);
+        };
+        match advance(state, instr) {
+            Advance::Done => {}
+            Advance::Stop(_) => return Row::quiet(made),
+            Advance::Ask(request) => match answer(state, shared, hart, instr, request) {
+                Answered::Not => return Row::quiet(made),
+                Answered::Quietly => {}
+                Answered::WithEvent => return Row::ending_at(made + 1, pc),
+            },
         }
         match state.status {
             Status::Running => {}
@@ -107,23 +119,6 @@ fn go_on(state: &mut HartState, copy: &TextCopy, shared: &mut Shared, hart: u32,
         }
     }
     Row::quiet(most)
-}
-
-/// Makes the next instruction of a running hart, unless it traps by itself, is a FENCE.I or is refused.
-#[inline(always)]
-fn make_one(state: &mut HartState, copy: &TextCopy, shared: &mut Shared, hart: u32) -> Made
-    requires running { state.old.status ≡ Status.Running }
-    requires few { hart < 8 }
-    ensures { IsTried result (text_bytes copy.now) hart state.old state.new shared.old shared.new }
-{
-    let Ok(instr) = copy.instruction(state.pc) else {
-        return Made::Nothing;
-    };
-    match advance(state, instr) {
-        Advance::Done => Made::Quietly,
-        Advance::Stop(_) => Made::Nothing,
-        Advance::Ask(request) => answer(state, shared, hart, instr, request),
-    }
 }
 
 /// Serves the request of an instruction and tells the hart the reply, unless it is a FENCE.I or is refused. Loads, and stores below
@@ -135,13 +130,13 @@ fn answer(
     hart: u32,
     instr: Instr,
     request: Request,
-) -> Made
+) -> Answered
     requires few { hart < 8 }
     requires width { IsRequest request }
-    ensures { IsAsked result hart state.old state.new shared.old shared.new instr request }
+    ensures { IsAnswer result hart state.old state.new shared.old shared.new instr request }
 {
     let reply = match request {
-        Request::FenceI => return Made::Nothing,
+        Request::FenceI => return Answered::Not,
         Request::Load { address, width } => shared.load(hart, address, width),
         Request::Store {
             address,
@@ -156,7 +151,7 @@ fn answer(
         _ => return answer_any(state, shared, hart, instr, request),
     };
     resume(state, instr, reply);
-    Made::Quietly
+    Answered::Quietly
 }
 
 /// The same for any request but a FENCE.I.
@@ -166,20 +161,20 @@ fn answer_any(
     hart: u32,
     instr: Instr,
     request: Request,
-) -> Made
+) -> Answered
     requires few { hart < 8 }
     requires width { IsRequest request }
     requires kept { is_renewing request ≡ false }
-    ensures { IsAsked result hart state.old state.new shared.old shared.new instr request }
+    ensures { IsAnswer result hart state.old state.new shared.old shared.new instr request }
 {
     let before = shared.events().len();
     let Ok(reply) = shared.request(hart, request) else {
-        return Made::Nothing;
+        return Answered::Not;
     };
     resume(state, instr, reply);
     if shared.events().len() == before {
-        Made::Quietly
+        Answered::Quietly
     } else {
-        Made::WithEvent
+        Answered::WithEvent
     }
 }

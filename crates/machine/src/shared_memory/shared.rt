@@ -127,6 +127,7 @@ impl Shared {
     }
 
     /// Serves a request of a hart. A refused request changes nothing; memory is taken only for an event.
+    #[inline(always)]
     pub fn request(&mut self, hart: u32, request: Request) -> Result<Reply, StepFault>
         requires hart { hart < 8 }
         requires width { IsRequest request }
@@ -206,6 +207,7 @@ impl Shared {
         }
     }
 
+    #[inline(always)]
     fn store(&mut self, hart: u32, address: u64, width: u32, value: u64) -> Result<Reply, StepFault>
         requires hart { hart < 8 }
         requires width { IsWidth width }
@@ -441,6 +443,7 @@ impl Shared {
     }
 
     /// Makes a write, and the event of one to persistent memory. A refused write changes nothing.
+    #[inline(always)]
     fn write(
         &mut self,
         hart: u32,
@@ -477,6 +480,7 @@ impl Shared {
         self.reservations.stored(hart, written_line);
     }
 
+    #[inline(always)]
     fn write_to_cache(
         &mut self,
         hart: u32,
@@ -614,6 +618,7 @@ impl Shared {
     }
 
     /// Adds the one event of a request that is done.
+    #[inline(always)]
     fn note(&mut self, event: Event) -> Result<(), StepFault>
         requires { IsEvent event }
         ensures ok { OnOk result (self.new ≡ record self.old { trace = self.old.trace ++ event ∷ [] }) }
