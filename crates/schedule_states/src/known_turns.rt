@@ -4,10 +4,11 @@
 //! have found in the order of the states, meets the same states in the same order, whatever their number is.
 
 ghost use Rattle.std.specs.Prelude.{◌≡◌, ◌<◌, ◌+◌, ℕ, [], Some, slice_get, IfSome};
-ghost use Rattle.schedule_states.specs.Onward.{AreKnownFrom, AreTurnsFrom};
+ghost use Rattle.schedule_states.specs.Onward.{AreKnownFrom, AreLookedFrom};
 ghost use Rattle.schedule_states.specs.Turns.{MayClaim};
 
-use crate::reached::{Reached, Turns};
+use crate::looked::Looked;
+use crate::reached::Reached;
 use crate::state_judge::StateJudge;
 use std::alloc::{AllocError, Global};
 use std::thread;
@@ -26,7 +27,7 @@ pub struct KnownTurns {
     workers: u32,
     /// The number of the first of these states.
     first: u32,
-    turns: Vec<Option<Turns>>,
+    turns: Vec<Option<Looked>>,
 }
 
 impl KnownTurns {
@@ -43,8 +44,8 @@ impl KnownTurns {
     }
 
     /// What is known of the turns from the state of a number.
-    pub fn of(&self, number: u32) -> Option<&Turns>
-        ensures { IfSome result (λ turns. (n : ℕ) × (self.now.first + n ≡ number) × (slice_get self.now.turns.items n ≡ Some (Some turns.now))) }
+    pub fn of(&self, number: u32) -> Option<&Looked>
+        ensures { IfSome result (λ looked. (n : ℕ) × (self.now.first + n ≡ number) × (slice_get self.now.turns.items n ≡ Some (Some looked.now))) }
     {
         let at = number.checked_sub(self.first)?;
         self.turns.get(at as usize)?.as_ref()
@@ -66,7 +67,8 @@ impl KnownTurns {
         if self.workers < 2 || waiting < LEAST_OF_ROUND || self.has_looked_at(number) {
             return Ok(());
         }
-        let mut turns = vec![in self.alloc; None; waiting.min(MOST_OF_ROUND)]?;
+        let mut turns = Vec::new(self.alloc);
+        turns.resize_with(waiting.min(MOST_OF_ROUND), || None)?;
         self.look_at(rt, judge, reached, number, &mut turns);
         self.first = number;
         self.turns = turns;
@@ -84,7 +86,7 @@ impl KnownTurns {
         judge: &J,
         reached: &Reached<'_, J>,
         first: u32,
-        turns: &mut [Option<Turns>],
+        turns: &mut [Option<Looked>],
     )
         requires claims { MayClaim (J.allows judge.now) reached.now.parts.claims }
         requires workers { 0 < self.now.workers }
@@ -95,9 +97,9 @@ impl KnownTurns {
             rt,
             turns,
             self.workers as usize,
-            &|at: usize, place: &mut Option<Turns>|
+            &|at: usize, place: &mut Option<Looked>|
                 requires { MayClaim (J.allows judge.now) reached.now.parts.claims }
-                ensures { IfSome place.new (AreTurnsFrom (J.stands judge.entry.now) (J.allows judge.entry.now) (J.ends judge.entry.now) reached.entry.now (first + at)) }
+                ensures { IfSome place.new (AreLookedFrom (J.stands judge.entry.now) (J.allows judge.entry.now) (J.ends judge.entry.now) reached.entry.now (first + at)) }
             {
                 *place = turns_at(alloc, judge, reached, first as usize, at);
             },
@@ -112,9 +114,9 @@ fn turns_at<J: StateJudge>(
     reached: &Reached<'_, J>,
     first: usize,
     behind: usize,
-) -> Option<Turns>
+) -> Option<Looked>
     requires claims { MayClaim (J.allows judge.now) reached.now.parts.claims }
-    ensures { IfSome result (AreTurnsFrom (J.stands judge.now) (J.allows judge.now) (J.ends judge.now) reached.now (first + behind)) }
+    ensures { IfSome result (AreLookedFrom (J.stands judge.now) (J.allows judge.now) (J.ends judge.now) reached.now (first + behind)) }
 {
     let number = first.checked_add(behind)?;
     if number >= reached.count() {
