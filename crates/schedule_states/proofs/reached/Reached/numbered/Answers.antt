@@ -14,7 +14,9 @@ use Rattle.schedule_states.proofs.reached.Reached.numbered.Goals as goal
 
 pub listed_numbers-requires-clause-below : goal.listed_numbers-requires-clause-below
 listed_numbers-requires-clause-below g c κs within =
-    let got : slice_get c.args.looked.now.listed.items c.loop-listed.listed-index ≡ Some c.listed-item.result = search rules in
+    let got : slice_get c.args.looked.now.listed.items c.loop-listed.listed-index ≡ Some c.listed-item.result =
+    slice_get-get_or c.args.looked.now.listed.items c.loop-listed.listed-index c.listed-item.result
+    (omega (arith, c.loop-listed-test.true, ap length c.deref-listed-items.ensures.value)) ∙ ap (λ (one : _). Some one) (search rules) in
     below_grows c.args.self.now.parts.table.states c.loop-listed.self.parts.table.states c.listed-item.result.list.items c.loop-listed.invariant.grown.parts.table.grows
     (c.requires.listed c.loop-listed.listed-index c.listed-item.result got).below
 
@@ -27,7 +29,9 @@ returns-in_err-numbers-clause-grown g c = (
 
 pub loop-listed-preserved : goal.loop-listed-preserved
 loop-listed-preserved g c =
-    let got : slice_get c.args.looked.now.listed.items c.loop-listed.listed-index ≡ Some c.listed-item.result = search rules in
+    let got : slice_get c.args.looked.now.listed.items c.loop-listed.listed-index ≡ Some c.listed-item.result =
+    slice_get-get_or c.args.looked.now.listed.items c.loop-listed.listed-index c.listed-item.result
+    (omega (arith, c.loop-listed-test.true, ap length c.deref-listed-items.ensures.value)) ∙ ap (λ (one : _). Some one) (search rules) in
     let grown : HaveGrown c.args.self.now c.listed_numbers.new.self =
     grown_twice c.args.self.now c.loop-listed.self c.listed_numbers.new.self c.loop-listed.invariant.grown c.listed_numbers.ensures.grown.0 in
     let before : WereBefore c.args.self.now.parts c.listed_numbers.new.self.parts = before_twice c.args.self.now.parts c.loop-listed.self.parts c.listed_numbers.new.self.parts
