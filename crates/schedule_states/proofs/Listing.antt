@@ -1,5 +1,6 @@
 -- Turns to states of whose parts a list of held lines is to have a number.
 use Rattle.std.proofs.Common.{◌≡◌, ℕ, ◌+◌, ◌<◌, List, [], ◌∷◌, Option, Some, None, length, slice_get, slice_index_or, refl, sym, ap, ◌∙◌, subst, arith}
+use Rattle.std.specs.Prelude.{IfSome}
 use Rattle.std.proofs.lemmas.Option.{same_Some, slice_get_within}
 use Rattle.hart.specs.declared.need.Request.{Request}
 use Rattle.hart.specs.declared.state.Status.{Status}
@@ -200,6 +201,12 @@ turn_listed stands allows old look new numbers n held s t h are lists turn = rec
       (turn.led (led_as_kept stands allows old look s t are.looked (led_as_before stands allows old new s t lists are.grown are.was_grown led)));
 }
 
+-- the memory to which a turn leads is there
+pub turn_there : {T : Type 0} (stands : T → List Event → Type 0) (allows : List Event → ℕ → Type 0) (r : ReachedView T) (s : ProgramState) (t : T) (h : ℕ) (next : Option StateNumbers) →
+    IsTurnTo stands allows r s t h next → IfSome next (λ numbers. numbers.memory < length r.parts.lists)
+turn_there stands allows r s t h (Some numbers) turn = turn.there.memory
+turn_there stands allows r s t h None turn = tt
+
 -- what a look finds of a turn
 pub known_found : {T : Type 0} (stands : T → List Event → Type 0) (allows : List Event → ℕ → Type 0) (old look : ReachedView T) (s : ProgramState) (t : T) (h : ℕ)
     (next : Option StateNumbers) (turn : FoundTurn) → AreNumbered old → AreLists old.parts.table.states old.parts.lists → HasLists old.parts s → HaveGrown old look →
@@ -226,7 +233,7 @@ known_found stands allows old look s t h (Some numbers) (found.Listed listed) ar
         (turn_listed stands allows old look new numbers n listed.list.items s t h both has is));
   },
 )
-known_found stands allows old look s t h None (found.Listed listed) are lists has grown before of is = absurd of.1
+known_found stands allows old look s t h None (found.Listed listed) are lists has grown before of is = absurd cc
 
 -- it stays so as the parts grow
 pub listed_kept : {T : Type 0} (stands : T → List Event → Type 0) (allows : List Event → ℕ → Type 0) (old new : ReachedView T) (s : ProgramState) (t : T) (listed : ListedTurn) →

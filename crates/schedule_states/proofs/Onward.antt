@@ -318,7 +318,7 @@ some_at kept is (Some one) t here known = known t here
 some_at kept is None t here known = tt
 
 -- turns of the first harts
-some_kept : {T : Type 0} (stands : T → List Event → Type 0) (allows : List Event → ℕ → Type 0) (old new : ReachedView T) (s : ProgramState) (t : T) (h : ℕ) (turn : Option Turn) →
+pub some_kept : {T : Type 0} (stands : T → List Event → Type 0) (allows : List Event → ℕ → Type 0) (old new : ReachedView T) (s : ProgramState) (t : T) (h : ℕ) (turn : Option Turn) →
     HasLists old.parts s → HaveGrown old new → WereBefore old.parts new.parts → IfSome turn (IsKnownTurn stands allows old s t h) → IfSome turn (IsKnownTurn stands allows new s t h)
 some_kept stands allows old new s t h (Some turn) lists grown before is = known_turn_kept stands allows old new s t h turn lists grown before is
 some_kept stands allows old new s t h None lists grown before is = tt
@@ -384,7 +384,7 @@ all_known_set count turn turns there are h few = elim (cases_eq h count) [
 ]
 
 -- turns from the state of a number
-pub turns_from_kept : {T : Type 0} (stands : T → List Event → Type 0) (allows : List Event → ℕ → Type 0) (ends : Status → Type 0) (old new : ReachedView T) (n : ℕ)
+unfoldable pub turns_from_kept : {T : Type 0} (stands : T → List Event → Type 0) (allows : List Event → ℕ → Type 0) (ends : Status → Type 0) (old new : ReachedView T) (n : ℕ)
     (turns : List (Option Turn)) → AreNumbered old → HaveGrown old new → WereBefore old.parts new.parts → AreTurnsFrom stands allows ends old n turns →
     AreTurnsFrom stands allows ends new n turns
 turns_from_kept stands allows ends old new n turns are grown before from =

@@ -2,14 +2,36 @@ use Rattle.std.proofs.Common.{◌≡◌, ◌<◌, ℕ, Some, length, slice_get, 
 use Rattle.std.proofs.lemmas.List.{length-set}
 use Rattle.bus.proofs.Places.{there_is}
 use Rattle.schedule_states.proofs.Numbering.{lists_of_parts, met_of_parts}
-use Rattle.schedule_states.proofs.Onward.{some_at, turns_to_set}
+use Rattle.schedule_states.proofs.Onward.{turns_to_set}
 use Rattle.schedule_states.specs.Covering.{PartsEndWell}
-use Rattle.schedule_states.specs.Onward.{AreTurnsTo, IsKnownTurn}
 use Rattle.schedule_states.proofs.reached.Reached.known_turns.Goals as goal
+use Rattle.schedule_states.proofs.reached.Reached.known_turns.Goals.{in-Some-Known, in-Some-Listed+in_ok-ok-in-Some-Listed, in-None}
 
 pub known_turn-requires-clause-lists : goal.known_turn-requires-clause-lists
 known_turn-requires-clause-lists g c κs within = lists_of_parts c.args.self.now c.args.number c.numbers-numbers.result c.in-Ok.state c.numbers-numbers.ensures.found
     c.in-Ok.ensures.memory c.in-Ok.ensures.parts c.numbers-numbers.ensures.there
+
+pub loop-hart-preserved : goal.loop-hart-preserved
+loop-hart-preserved g c =
+    let few : c.loop-hart.hart < length c.loop-hart.turns = omega (arith, c.loop-hart.invariant.long, c.loop-hart-test.true, c.are_numbered.ensures.few) in
+    elim c.match-known_turn.branch [
+      | in-Some-Known w ↦ record {
+        turns = λ t kept. rw w.turns-is (turns_to_set (g.J.StateJudge.stands c.args.judge.now) (g.J.StateJudge.allows c.args.judge.now) c.args.self.now c.in-Ok.state t c.args.self.now.harts c.loop-hart.hart
+            w.in-Some-Known.turn c.loop-hart.turns few (w.in-Some-Known.ensures t kept) (c.loop-hart.invariant.turns t kept));
+        listed = λ t kept. rw w.listed-is (c.loop-hart.invariant.listed t kept);
+        long = rw w.turns-is (length-set c.loop-hart.turns c.loop-hart.hart _ ∙ c.loop-hart.invariant.long);
+      }
+      | in-Some-Listed+in_ok-ok-in-Some-Listed w ↦ record {
+        turns = λ t kept. rw w.turns-is (c.loop-hart.invariant.turns t kept);
+        listed = λ t kept. ?;
+        long = rw w.turns-is c.loop-hart.invariant.long;
+      }
+      | in-None w ↦ record {
+        turns = λ t kept. rw w.turns-is (c.loop-hart.invariant.turns t kept);
+        listed = λ t kept. rw w.listed-is (c.loop-hart.invariant.listed t kept);
+        long = rw w.turns-is c.loop-hart.invariant.long;
+      }
+    ]
 
 pub returns : goal.returns
 returns g c =
