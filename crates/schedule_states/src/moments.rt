@@ -1,6 +1,6 @@
 //! Moments of a search: what a power cut may leave, and what is kept of the operations then. States that differ in neither are judged once.
 
-ghost use Rattle.std.specs.Prelude.{◌≡◌, ◌⊎◌, ◌+◌, ◌*◌, ◌^◌, ◌<◌, ◌≤◌, [], None, false, true, length, IfNone, IfOk, IsSome, OnOk};
+ghost use Rattle.std.specs.Prelude.{◌≡◌, ◌⊎◌, ◌+◌, ◌*◌, ◌^◌, ◌<◌, ◌≤◌, [], None, false, true, length, IfNone, IfOk, IfSome, IsSome, OnOk};
 ghost use Rattle.schedule_states.specs.Happening.{IsHappening};
 ghost use Rattle.schedule_states.specs.Judged.{AreJudged, CanBeJudged};
 ghost use Rattle.schedule_states.specs.Judging.{AreGoodMoments, IsGoodState, StaysGood};
@@ -92,7 +92,8 @@ impl Judged {
 
     /// Why the search goes no further from the state of a number, where that is known.
     fn stop_at(&self, number: u32) -> Option<Stop>
-        ensures { IfNone result ((number < self.now.good) ⊎ (self.now.stop ≡ None)) }
+        ensures none { IfNone result ((number < self.now.good) ⊎ (self.now.stop ≡ None)) }
+        ensures some { IfSome result (λ stop. self.now.good ≤ number) }
     {
         if number < self.good { None } else { self.stop }
     }
@@ -115,6 +116,7 @@ pub fn judge_at<T: Threads + Sync, J: StateJudge + Sync>(
     ensures judged { OnOk result (AreJudged (J.stands judge.now) (J.good judge.now workspace.new) reached.now judged.new
         × AreKnownFrom (J.stands judge.now) (J.allows judge.now) (J.ends judge.now) reached.now judged.new.known.first judged.new.known.turns.items) }
     ensures good { IfOk result (λ stop. stop ≡ None → number < judged.new.good) }
+    ensures first { IfOk result (λ found. IfSome found (λ stop. judged.new.good ≤ number)) }
     ensures kept { J.fits judge.now (length reached.now.parts.table.start.medium) workspace.new × StaysGood (J.good judge.now workspace.old) (J.good judge.now workspace.new) }
     ensures same { (judged.new.ways ≡ judged.old.ways) × (judged.new.limits ≡ judged.old.limits) }
 {
