@@ -14,6 +14,7 @@ pub mod Tallying
 pub mod Telling
 pub mod Totaling
 pub mod Indexed
+pub mod Paging
 pub mod Places
 pub mod Queries
 pub mod Raising

@@ -14,7 +14,7 @@ use Rattle.store_trace.specs.declared.crash_model.step.PersistenceStep.TheVarian
 use Rattle.line_memory.specs.Lines.{line_at}
 use Rattle.store_trace.specs.History.{at_moment, history, steps_of}
 use Rattle.store_trace.specs.declared.event.Event.{Event}
-use Rattle.crash_image.specs.Lines.{AreLines, IsPlace, LineView, bytes_before, floor_before, raise_event, store_event}
+use Rattle.crash_image.specs.Lines.{AreLines, IsFloorAt, IsPlace, LineView, bytes_before, floor_before, raise_event, store_event, unstored}
 use Rattle.crash_image.specs.declared.trace_index.line.StoredLine.{StoredLine}
 
 pub floor_found : (start : List (List ℕ)) (past : ℕ → List PersistenceStep) (n : ℕ) (lines : List LineView) (l m number : ℕ) (d : LineView) →
@@ -51,6 +51,29 @@ bytes_found start past n lines l (suc k) d a there le =
     let less : suc k - 1 ≡ k = omega arith in
     let same : (suc k == 0) ≡ false = grind (arith, nat_tests) in
     rw (same, less) (subst (λ (x : ℕ). (get_or (get_or lines l d).stores k none).bytes ≡ line_after (line_at start l) l x (past n)) one (s.bytes k none lt))
+
+-- a line that is never stored to
+pub stores_none : (start : List (List ℕ)) (past : ℕ → List PersistenceStep) (n : ℕ) (lines : List LineView) (l m : ℕ) →
+    AreLines start past n lines → l < length start → m ≤ n → get_or lines l unstored ≡ unstored → 0 ≡ stores l (past m)
+stores_none start past n lines l m a there le none =
+    let place : IsPlace store_event unstored.stores m (stores l (past m)) =
+    subst (λ (line : LineView). IsPlace store_event line.stores m (stores l (past m))) none ((a.each l unstored there).stored.place m le) in
+    omega (arith, place.within)
+
+pub floor_none : (start : List (List ℕ)) (past : ℕ → List PersistenceStep) (n : ℕ) (lines : List LineView) (l m : ℕ) →
+    AreLines start past n lines → l < length start → m ≤ n → get_or lines l unstored ≡ unstored → 0 ≡ floor l (past m)
+floor_none start past n lines l m a there le none =
+    let f : IsFloorAt unstored.raises m (floor l (past m)) =
+    subst (λ (line : LineView). IsFloorAt line.raises m (floor l (past m))) none ((a.each l unstored there).raised.floors m le) in
+    let first : f.count ≡ 0 = omega (arith, f.place.within) in
+    sym (ap (floor_before unstored.raises) first) ∙ f.value
+
+pub bytes_none : (start : List (List ℕ)) (past : ℕ → List PersistenceStep) (n : ℕ) (lines : List LineView) (l number : ℕ) →
+    AreLines start past n lines → l < length start → number ≤ stores l (past n) → get_or lines l unstored ≡ unstored →
+    line_at start l ≡ line_after (line_at start l) l number (past n)
+bytes_none start past n lines l number a there le none =
+    let first : number ≡ 0 = omega (arith, le, stores_none start past n lines l n a there (omega arith) none) in
+    rw first (sym (line_after_none (line_at start l) l (past n)))
 
 -- once the line has its stores, the further events leave it
 stores_more : (l : ℕ) (q p : List PersistenceStep) → stores l p ≤ stores l (q ++ p)

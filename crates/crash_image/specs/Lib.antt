@@ -9,4 +9,5 @@ pub mod Totals
 pub mod View
 pub mod Lines
 pub mod Pendings
+pub mod Tables
 pub mod TraceIndexView

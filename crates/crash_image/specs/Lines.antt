@@ -1,12 +1,15 @@
 -- What the index of a trace keeps of each line, once the first n events were read. Here `past m` stands for the
 -- persistence steps of moment m, the newest first.
-use Rattle.std.specs.Prelude.{◌≡◌, ℕ, ◌+◌, ◌-◌, ◌<◌, ◌≤◌, ◌==◌, nat_lt, List, [], ◌∷◌, ◌++◌, length, if◌then◌else◌, slice_index_or}
+use Rattle.std.specs.Prelude.{◌≡◌, ℕ, ◌+◌, ◌-◌, ◌<◌, ◌≤◌, ◌==◌, ◌%◌, nat_lt, List, [], ◌∷◌, ◌++◌, length, if◌then◌else◌, slice_index_or}
 use Rattle.store_trace.specs.Floor.{floor}
 use Rattle.store_trace.specs.Image.{line_after}
 use Rattle.store_trace.specs.Stores.{stores}
 use Rattle.store_trace.specs.declared.crash_model.step.PersistenceStep.{PersistenceStep}
+use Rattle.store_trace.specs.TraceView.{IsWidth}
+use Rattle.word_bits.specs.Bytes.{stored}
 use Rattle.line_memory.specs.Lines.{line_at}
 use Rattle.crash_image.specs.declared.trace_index.line.Raise.{Raise}
+use Rattle.crash_image.specs.declared.trace_index.line.Stored.{Stored}
 use Rattle.crash_image.specs.declared.trace_index.line.StoredLine.{StoredLine}
 
 -- the stores of a line and the raises of its floor, the oldest first
@@ -45,6 +48,21 @@ abbrev pub raised_to : List Raise → ℕ → ℕ → List Raise
 raised_to raises event number =
     if nat_lt (last_floor raises) number then raises ++ record { event = event; floor = number } ∷ [] else raises
 
+-- no store yet
+abbrev pub unstored : LineView
+unstored = record { stores = []; raises = [] }
+
+-- the store is one of a line's bytes, aligned
+pub record FitsLine (store : Stored) : Type 0 where
+  pub width : IsWidth store.width
+  pub aligned : store.offset % store.width ≡ 0
+  pub offset : store.offset < 64
+
+-- the stores of a line that started with these bytes, with one more
+abbrev pub with_store : List ℕ → List StoredLine → Stored → List StoredLine
+with_store start made store =
+    made ++ record { event = store.event; bytes = stored (bytes_before start made (length made)) store.offset store.width store.value } ∷ []
+
 -- all of them are of events before the moment
 pub record AreBefore (line : LineView) (moment : ℕ) : Type 0 where
   pub stores : (i : ℕ) (d : StoredLine) → i < length line.stores → (slice_index_or line.stores i d).event < moment
@@ -76,6 +94,6 @@ pub record IsLine (start : List ℕ) (l : ℕ) (past : ℕ → List PersistenceS
 
 -- those of all lines, after the first n events
 pub record AreLines (start : List (List ℕ)) (past : ℕ → List PersistenceStep) (n : ℕ) (lines : List LineView) : Type 0 where
-  pub size : length lines ≡ length start
+  pub size : length start ≤ length lines
   pub each : (l : ℕ) (d : LineView) → l < length start → IsLine (line_at start l) l past n (slice_index_or lines l d)
   pub settled : (l : ℕ) (d : LineView) → l < length start → last_floor (slice_index_or lines l d).raises ≡ floor l (past n)

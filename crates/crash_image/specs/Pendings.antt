@@ -28,7 +28,7 @@ pub record AreIndexed (start : List (List ℕ)) (past : ℕ → List Persistence
 
 -- while event n, a fence of this hart, raises the floors: its first `read` cleans are met
 pub record IsRaising (start : List (List ℕ)) (past : ℕ → List PersistenceStep) (n hart : ℕ) (cleans : List Clean) (read : ℕ) (lines : List LineView) : Type 0 where
-  pub size : length lines ≡ length start
+  pub size : length start ≤ length lines
   pub each : (l : ℕ) (d : LineView) → l < length start → IsLine (line_at start l) l past n (slice_index_or lines l d)
   pub low : (l : ℕ) (d : LineView) → l < length start → floor l (past n) ≤ last_floor (slice_index_or lines l d).raises
   pub high : (l : ℕ) (d : LineView) → l < length start →

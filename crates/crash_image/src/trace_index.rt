@@ -8,3 +8,5 @@ pub use index::TraceIndex;
 mod build;
 mod index;
 mod line;
+mod page;
+mod table;

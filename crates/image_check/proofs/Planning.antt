@@ -1,10 +1,13 @@
 -- The inodes of an operation's one or two entries, and whether the plan has an operation.
-use Rattle.std.proofs.Common.{◌≡◌, ◌⊎◌, ℕ, ◌+◌, ◌<◌, Bool, true, false, cond, inl, inr, List, [], ◌∷◌, map, length, get_or, drop, refl, sym, ap, ◌∙◌, subst, Option, Some, None, ◌↔◌, eqb-true, eq-eqb}
+use Rattle.std.proofs.Common.{◌≡◌, ◌⊎◌, ℕ, zero, suc, ◌+◌, ◌<◌, Bool, true, false, cond, inl, inr, List, [], ◌∷◌, map, length, get_or, drop, refl, sym, ap, ◌∙◌, subst, Option, Some, None, ◌↔◌, eqb-true, eq-eqb, arith}
 use Rattle.std.specs.Prelude.{◌==◌}
 use Rattle.std.specs.List.{Contains}
 use Rattle.std.specs.Option.{is_some}
 use Rattle.std.proofs.lemmas.Bool.{cases_Bool}
-use Rattle.std.proofs.lemmas.List.{drop_more}
+use Rattle.std.proofs.lemmas.Bool.Decides.{Decides-eqb}
+use Rattle.std.proofs.lemmas.List.{drop_more, get_or-map, length-map}
+use Rattle.std.proofs.lemmas.Map.Made.{AllPairs-from_IsDistinct}
+use Rattle.plan.specs.Plans.{KeepsRules, PlanView}
 use Rattle.plan.specs.declared.operation.Operation.{Operation}
 use Rattle.plan.specs.declared.operation.PlannedEntry.{PlannedEntry}
 use Rattle.image_check.specs.OrderFaults.{IsPlanned}
@@ -107,3 +110,24 @@ found_later plan op i d h e n =
     e
     ∙ ap (λ (os : List Operation). operation_of os op) (drop_more plan i d h)
     ∙ ap (λ (b : Bool). cond b (Some (get_or plan i d)) (operation_of (drop (i + 1) plan) op)) (unequal (get_or plan i d).number op n)
+
+-- an operation that none before it is the same as
+first_at : (plan : List Operation) (op i : ℕ) (d : Operation) → ((k : ℕ) → k < i → ¬ ((get_or plan k d).number ≡ op)) → i < length plan →
+    (get_or plan i d).number ≡ op → operation_of plan op ≡ Some (get_or plan i d)
+first_at [] op i d apart h n = absurd (omega (arith, h))
+first_at (x ∷ plan) op zero d apart h n = ap (λ (b : Bool). cond b (Some x) (operation_of plan op)) (eq-eqb x.number op n)
+first_at (x ∷ plan) op (suc i) d apart h n =
+    ap (λ (b : Bool). cond b (Some x) (operation_of plan op)) (unequal x.number op (apart 0 (omega arith)))
+    ∙ first_at plan op i d (λ k l. apart (suc k) (omega (arith, l))) (omega (arith, h)) n
+
+-- one of a plan, whose numbers differ
+pub found_at : (plan : PlanView) (op i : ℕ) (d : Operation) → KeepsRules 4 plan → i < length plan.operations →
+    (get_or plan.operations i d).number ≡ op → operation_of plan.operations op ≡ Some (get_or plan.operations i d)
+found_at plan op i d rules h n =
+    let number : Operation → ℕ = λ o. o.number in
+    let size : length (map number plan.operations) ≡ length plan.operations = length-map plan.operations number in
+    let pairs = AllPairs-from_IsDistinct Decides-eqb (map number plan.operations) (rules.distinct (omega arith)) in
+    first_at plan.operations op i d
+    (λ k l e. pairs k i 0 l (omega (arith, size, h))
+    (get_or-map number plan.operations k d 0 (omega (arith, l, h)) ∙ e ∙ sym n ∙ sym (get_or-map number plan.operations i d 0 h)))
+    h n

@@ -13,12 +13,29 @@ use nova_log::Volume;
 use plan::{Operation, Plan, PlannedEntries};
 use std::alloc::AllocError;
 
-/// The planned operation of this number.
-#[tactic(auto, using(crate::proofs::Planning::found_here, crate::proofs::Planning::found_later))]
+/// The planned operation of this number. It is looked for where it stands if the numbers go on by one from the first.
+#[tactic(auto, using(crate::proofs::Planning::found_at))]
 pub fn find_operation(plan: &Plan, op: u64) -> Option<Operation>
     ensures { result ≡ operation_of plan.now.operations op }
 {
     let operations = plan.operations();
+    match operations.get(likely_place(operations, op)) {
+        Some(operation) if operation.number == op => Some(*operation),
+        _ => search(operations, op),
+    }
+}
+
+fn likely_place(operations: &[Operation], op: u64) -> usize {
+    match operations.first() {
+        Some(first) => op.saturating_sub(first.number) as usize,
+        None => 0,
+    }
+}
+
+#[tactic(auto, using(crate::proofs::Planning::found_here, crate::proofs::Planning::found_later))]
+fn search(operations: &[Operation], op: u64) -> Option<Operation>
+    ensures { result ≡ operation_of operations.now op }
+{
     for operation in operations {
         if operation.number == op {
             return Some(*operation);

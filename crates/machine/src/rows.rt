@@ -1,8 +1,7 @@
 //! Steps of one hart in a row, up to the first that makes an event.
 
-ghost use Rattle.std.specs.Prelude.{◌≡◌, ◌<◌, ◌≤◌, None, Some, false, replicate};
+ghost use Rattle.std.specs.Prelude.{◌≡◌, ◌<◌, ◌≤◌, None, Some, replicate};
 ghost use Rattle.hart.specs.Requests.{IsRequest};
-ghost use Rattle.machine.specs.Histories.{is_renewing};
 ghost use Rattle.machine.specs.Represents.{RunsBoth, text_bytes};
 ghost use Rattle.machine.specs.Rows.{IsAnswer, IsRow, IsRowOf, RunsBeforeEach};
 
@@ -136,7 +135,6 @@ fn answer(
     ensures { IsAnswer result hart state.old state.new shared.old shared.new instr request }
 {
     let reply = match request {
-        Request::FenceI => return Answered::Not,
         Request::Load { address, width } => shared.load(hart, address, width),
         Request::Store {
             address,
@@ -154,7 +152,7 @@ fn answer(
     Answered::Quietly
 }
 
-/// The same for any request but a FENCE.I.
+/// The same for any request.
 fn answer_any(
     state: &mut HartState,
     shared: &mut Shared,
@@ -164,9 +162,11 @@ fn answer_any(
 ) -> Answered
     requires few { hart < 8 }
     requires width { IsRequest request }
-    requires kept { is_renewing request ≡ false }
     ensures { IsAnswer result hart state.old state.new shared.old shared.new instr request }
 {
+    if let Request::FenceI = request {
+        return Answered::Not;
+    }
     let before = shared.events().len();
     let Ok(reply) = shared.request(hart, request) else {
         return Answered::Not;

@@ -18,6 +18,7 @@ pub mod Happening
 pub mod Held
 pub mod Keeping
 pub mod Leaving
+pub mod Listing
 pub mod Looking
 pub mod Marking
 pub mod Media

@@ -1,5 +1,5 @@
 -- Values by their places in lists, and lists that keep each value in its place.
-use Rattle.std.proofs.Common.{◌≡◌, ◌⊎◌, inl, inr, ℕ, zero, suc, ◌<◌, ◌≤◌, Bool, true, false, cond, List, [], ◌∷◌, ◌++◌, None, Some, find, option_map, map, length, slice_get, refl, sym, ap, ◌∙◌, subst, arith}
+use Rattle.std.proofs.Common.{◌≡◌, ◌⊎◌, inl, inr, ℕ, zero, suc, ◌+◌, ◌<◌, ◌≤◌, Bool, true, false, cond, List, [], ◌∷◌, ◌++◌, Some, find, option_map, map, length, slice_get, refl, sym, ap, ◌∙◌, subst, arith}
 use Rattle.std.proofs.lemmas.Option.{same_Some, slice_get-map, slice_get_within}
 use Rattle.bus.proofs.Places.{there_is}
 use Rattle.schedule_states.specs.Numbers.{AreKept}
@@ -10,6 +10,12 @@ module _ {X : Type 0} where
   got_left [] ys n there = absurd (omega arith)
   got_left (x ∷ xs) ys zero there = refl
   got_left (x ∷ xs) ys (suc n) there = got_left xs ys n (omega arith)
+
+  pub got_right : (xs ys : List X) (n : ℕ) → slice_get (xs ++ ys) (length xs + n) ≡ slice_get ys n
+  got_right [] ys n = let none : 0 + n ≡ n = omega arith in rw none refl
+  got_right (x ∷ xs) ys n =
+      let first : suc (length xs) + n ≡ suc (length xs + n) = omega arith in
+      rw first (got_right xs ys n)
 
   -- a list to which one is added
   pub each_pushed : (P : ℕ → X → Type 0) (xs : List X) (y : X) → ((n : ℕ) (x : X) → slice_get xs n ≡ Some x → P n x) → P (length xs) y →
@@ -24,6 +30,10 @@ module _ {X : Type 0} where
   got_appended old new y (inl same) n x got = inl (rw same at got)
   got_appended old new y (inr more) n x got =
       each_pushed (λ k z. (slice_get old k ≡ Some z) ⊎ (z ≡ y)) old y (λ k z before. inl before) (inr refl) n x (rw more at got)
+
+  pub kept_appended : (old new : List X) (y : X) → (new ≡ old) ⊎ (new ≡ old ++ y ∷ []) → AreKept old new
+  kept_appended old new y (inl same) n x got = rw same got
+  kept_appended old new y (inr more) n x got = rw more (got_left old (y ∷ []) n (slice_get_within old n x got) ∙ got)
 
   pub first_of_one : (new : List X) (y : X) (n : ℕ) → (new ≡ []) ⊎ (new ≡ [] ++ y ∷ []) → slice_get new n ≡ Some y → slice_get new 0 ≡ Some y
   first_of_one new y n (inl none) got = let found : slice_get [] n ≡ Some y = rw none at got in absurd cc
@@ -75,3 +85,7 @@ pub kept_seen : {X Y : Type 0} (f : X → Y) (old new : List X) → AreKept old 
 kept_seen f old new kept n y got =
     let at : (x : _) × (slice_get old n ≡ Some x) × (f x ≡ y) = got_before f old n y got in
     slice_get-map f new n ∙ ap (option_map f) (kept n at.0 at.1) ∙ ap (λ (z : _). Some z) at.2
+
+-- so is the value at a place behind the first ones
+pub seen_behind : {X Y : Type 0} (f : X → Y) (xs ys : List X) (n : ℕ) (y : X) → slice_get ys n ≡ Some y → slice_get (map f (xs ++ ys)) (length xs + n) ≡ Some (f y)
+seen_behind f xs ys n y got = slice_get-map f (xs ++ ys) (length xs + n) ∙ ap (option_map f) (got_right xs ys n ∙ got)

@@ -108,6 +108,11 @@ numbered_parts r hart_parts kept are = numbered_kept r (with_parts r hart_parts)
   harts = refl;
 }) refl are
 
+-- the parts alone grow
+pub grown_by : {T : Type 0} (r : ReachedView T) (parts : PartsView) → AreGrown r.parts parts →
+    HaveGrown r (record { parts = parts; hart_parts = r.hart_parts; standings = r.standings; states = r.states; harts = r.harts })
+grown_by r parts grown = record { parts = grown; hart_parts = λ n value found. found; standings = λ n value found. found; states = λ n value found. found; harts = refl }
+
 pub numbered_grown : {T : Type 0} (r : ReachedView T) (parts : PartsView) (standings : List T) → AreGrown r.parts parts → AreKept r.standings standings → AreNumbered r →
     AreNumbered (record { parts = parts; hart_parts = r.hart_parts; standings = standings; states = r.states; harts = r.harts })
 numbered_grown r parts standings grown kept are =

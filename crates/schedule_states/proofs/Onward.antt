@@ -1,5 +1,5 @@
 -- The turns of harts, before the states to which they lead have numbers.
-use Rattle.std.proofs.Common.{◌≡◌, ◌⊎◌, inl, inr, ℕ, zero, suc, ◌+◌, ◌<◌, ◌≤◌, List, [], ◌∷◌, ◌++◌, Option, Some, None, length, slice_get, slice_index_or, slice_set, refl, sym, ap, ◌∙◌, subst, arith}
+use Rattle.std.proofs.Common.{◌≡◌, inl, inr, ℕ, zero, suc, ◌+◌, ◌<◌, ◌≤◌, List, [], ◌∷◌, Option, Some, None, length, slice_get, slice_index_or, slice_set, refl, sym, ap, ◌∙◌, subst, arith}
 use Rattle.std.specs.Prelude.{IfOk, IfSome, IsSome, Ok, Result}
 use Rattle.std.proofs.lemmas.Bool.{cases_eq}
 use Rattle.std.proofs.lemmas.Option.{same_Some, slice_get_within}
@@ -16,10 +16,10 @@ use Rattle.schedule_states.proofs.Numbering.{lists_of_met, met_kept, numbers_the
 use Rattle.schedule_states.proofs.Turning.{same_stands, way_kept}
 use Rattle.schedule_states.specs.Behind.{GoesOwnBy, IsFit}
 use Rattle.schedule_states.specs.Claims.{claim_in}
-use Rattle.schedule_states.specs.Covering.{CoversAt, IsMet, IsTaken, ReachedView, StandsAs}
+use Rattle.schedule_states.specs.Covering.{CoversAt, IsMet, IsTaken, ReachedView}
 use Rattle.schedule_states.specs.Ending.{IsTurn, IsWayTo, LeadsTo}
 use Rattle.schedule_states.specs.Happening.{AreLed, IsLed, IsLedAs, IsLedTo}
-use Rattle.schedule_states.specs.Onward.{AreAllKnown, AreKnownFrom, AreTurnsFrom, AreTurnsTo, HasParts, HasPlace, IsKnownTurn, IsPlaced, IsTurnOfParts, IsTurnTo, LeadsToParts, MayHaveOneMore, only}
+use Rattle.schedule_states.specs.Onward.{AreAllKnown, AreTurnsFrom, AreTurnsTo, HasParts, HasPlace, IsKnownTurn, IsPlaced, IsTurnOfParts, IsTurnTo, MayHaveOneMore, only}
 use Rattle.schedule_states.specs.Reaching.{AreNumbered, AreThere, HaveGrown, WereBefore}
 use Rattle.schedule_states.specs.StartLines.{StartView}
 use Rattle.schedule_states.specs.States.{PartsView, StandsFor}
@@ -318,7 +318,7 @@ some_at kept is (Some one) t here known = known t here
 some_at kept is None t here known = tt
 
 -- turns of the first harts
-some_kept : {T : Type 0} (stands : T → List Event → Type 0) (allows : List Event → ℕ → Type 0) (old new : ReachedView T) (s : ProgramState) (t : T) (h : ℕ) (turn : Option Turn) →
+pub some_kept : {T : Type 0} (stands : T → List Event → Type 0) (allows : List Event → ℕ → Type 0) (old new : ReachedView T) (s : ProgramState) (t : T) (h : ℕ) (turn : Option Turn) →
     HasLists old.parts s → HaveGrown old new → WereBefore old.parts new.parts → IfSome turn (IsKnownTurn stands allows old s t h) → IfSome turn (IsKnownTurn stands allows new s t h)
 some_kept stands allows old new s t h (Some turn) lists grown before is = known_turn_kept stands allows old new s t h turn lists grown before is
 some_kept stands allows old new s t h None lists grown before is = tt
@@ -339,6 +339,19 @@ pub turns_to_kept : {T : Type 0} (stands : T → List Event → Type 0) (allows 
     AreTurnsTo stands allows new s t count turns
 turns_to_kept stands allows old new s t count turns lists grown before are h few =
     some_kept stands allows old new s t h (slice_index_or turns h None) lists grown before (are h few)
+
+-- with the turn of one hart set
+pub turns_to_set : {T : Type 0} (stands : T → List Event → Type 0) (allows : List Event → ℕ → Type 0) (r : ReachedView T) (s : ProgramState) (t : T) (count hart : ℕ)
+    (turn : Turn) (turns : List (Option Turn)) → hart < length turns → IsKnownTurn stands allows r s t hart turn → AreTurnsTo stands allows r s t count turns →
+    AreTurnsTo stands allows r s t count (slice_set turns hart (Some turn))
+turns_to_set stands allows r s t count hart turn turns there is are h few = elim (cases_eq h hart) [
+  | inl same ↦
+      let here : slice_index_or (slice_set turns hart (Some turn)) h None ≡ Some turn =
+      ap (λ (k : ℕ). slice_index_or (slice_set turns hart (Some turn)) k None) same ∙ read_set turns hart (Some turn) None there in
+      subst (λ (one : Option Turn). IfSome one (IsKnownTurn stands allows r s t h)) (sym here)
+      (subst (λ (k : ℕ). IsKnownTurn stands allows r s t k turn) (sym same) is)
+  | inr other ↦ subst (λ (one : Option Turn). IfSome one (IsKnownTurn stands allows r s t h)) (sym (read_else turns hart h (Some turn) None other)) (are h few)
+]
 
 -- with the turn of one hart more
 pub turns_to_more : {T : Type 0} (stands : T → List Event → Type 0) (allows : List Event → ℕ → Type 0) (r : ReachedView T) (s : ProgramState) (t : T) (count : ℕ)
@@ -371,7 +384,7 @@ all_known_set count turn turns there are h few = elim (cases_eq h count) [
 ]
 
 -- turns from the state of a number
-pub turns_from_kept : {T : Type 0} (stands : T → List Event → Type 0) (allows : List Event → ℕ → Type 0) (ends : Status → Type 0) (old new : ReachedView T) (n : ℕ)
+unfoldable pub turns_from_kept : {T : Type 0} (stands : T → List Event → Type 0) (allows : List Event → ℕ → Type 0) (ends : Status → Type 0) (old new : ReachedView T) (n : ℕ)
     (turns : List (Option Turn)) → AreNumbered old → HaveGrown old new → WereBefore old.parts new.parts → AreTurnsFrom stands allows ends old n turns →
     AreTurnsFrom stands allows ends new n turns
 turns_from_kept stands allows ends old new n turns are grown before from =
@@ -393,20 +406,3 @@ pub turns_at_number : {T : Type 0} (stands : T → List Event → Type 0) (allow
     (turns : List (Option Turn)) (u : ProgramState) (v : T) → AreTurnsFrom stands allows ends r n turns → IsMet r n u v → AreTurnsTo stands allows r u v r.harts turns
 turns_at_number stands allows ends r n turns u v from other h few =
     some_of_same stands allows r n from.state u from.standing v h (slice_index_or turns h None) from.met other (from.turns_are h few)
-
--- turns that are known of states behind one another
-pub known_none : {T : Type 0} (stands : T → List Event → Type 0) (allows : List Event → ℕ → Type 0) (ends : Status → Type 0) (r : ReachedView T) (first : ℕ)
-    (known : List (Option (List (Option Turn)))) → known ≡ [] → AreKnownFrom stands allows ends r first known
-known_none stands allows ends r first known none n turns found =
-    let here : slice_get [] n ≡ Some (Some turns) = rw none at found in absurd cc
-
-pub known_kept : {T : Type 0} (stands : T → List Event → Type 0) (allows : List Event → ℕ → Type 0) (ends : Status → Type 0) (old new : ReachedView T) (first : ℕ)
-    (known : List (Option (List (Option Turn)))) → AreNumbered old → HaveGrown old new → WereBefore old.parts new.parts → AreKnownFrom stands allows ends old first known →
-    AreKnownFrom stands allows ends new first known
-known_kept stands allows ends old new first known are grown before is n turns found = turns_from_kept stands allows ends old new (first + n) turns are grown before (is n turns found)
-
-pub known_of : {T : Type 0} (stands : T → List Event → Type 0) (allows : List Event → ℕ → Type 0) (ends : Status → Type 0) (r : ReachedView T) (first number : ℕ)
-    (known : List (Option (List (Option Turn)))) (turns : List (Option Turn)) → AreKnownFrom stands allows ends r first known →
-    (n : ℕ) × (first + n ≡ number) × (slice_get known n ≡ Some (Some turns)) → AreTurnsFrom stands allows ends r number turns
-known_of stands allows ends r first number known turns is at =
-    subst (λ (k : ℕ). AreTurnsFrom stands allows ends r k turns) at.1 (is at.0 turns at.2)

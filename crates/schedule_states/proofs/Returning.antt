@@ -21,7 +21,7 @@ use Rattle.schedule_states.specs.declared.line_state.LineState.{LineState}
 use Rattle.schedule_states.specs.declared.program_state.HartPart.{HartPart}
 use Rattle.schedule_states.specs.declared.program_state.ProgramState.{ProgramState}
 
-text_before : (old new : PartsView) (n : ℕ) (text : Memory) → AreGrown old new → AreLists old.table.states old.lists → n < length old.lists → IsText new n text →
+pub text_before : (old new : PartsView) (n : ℕ) (text : Memory) → AreGrown old new → AreLists old.table.states old.lists → n < length old.lists → IsText new n text →
     IsText old n text
 text_before old new n text grown are there is =
     let found : slice_get old.lists n ≡ Some is.held = got_kept old.lists new.lists n is.held grown.lists there is.found in
@@ -33,7 +33,7 @@ text_before old new n text grown are there is =
           ∙ ap (λ (s : StartView). memory_over old.table.states is.held (memory_at s)) grown.table.start);
     }
 
-memory_before : (start : StartView) (old new : List LineState) (held : List HeldLine) (memory : Memory) (p : List PersistenceStep) → AreKept old new →
+pub memory_before : (start : StartView) (old new : List LineState) (held : List HeldLine) (memory : Memory) (p : List PersistenceStep) → AreKept old new →
     AreBelow (length old) held → IsMemoryOf start new held memory p → IsMemoryOf start old held memory p
 memory_before start old new held memory p grows below of = record {
   below = below;

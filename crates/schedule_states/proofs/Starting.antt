@@ -5,14 +5,8 @@ use Rattle.std.proofs.lemmas.List.{length-append}
 use Rattle.std.specs.List.{concat}
 use Rattle.line_memory.specs.Lines.{AreLines, IsMedium, line_bytes}
 use Rattle.line_memory.specs.Regions.{padded}
-use Rattle.schedule_states.proofs.Looking.{got_left}
+use Rattle.schedule_states.proofs.Looking.{got_left, got_right}
 use Rattle.schedule_states.specs.StartLines.{AreOf}
-
-get_right : (xs ys : List ℕ) (i : ℕ) → slice_get (xs ++ ys) (length xs + i) ≡ slice_get ys i
-get_right [] ys i = let e : 0 + i ≡ i = omega arith in rw e refl
-get_right (x ∷ xs) ys i =
-    let e : suc (length xs) + i ≡ suc (length xs + i) = omega arith in
-    rw e (get_right xs ys i)
 
 -- the lines after the first
 rest_whole : (first : List ℕ) (lines : List (List ℕ)) → AreLines (first ∷ lines) → AreLines lines
@@ -42,7 +36,7 @@ joined_bytes (first ∷ lines) each offset =
           let place : offset % 64 ≡ (offset - 64) % 64 = omega arith in
           let at : offset ≡ length first + (offset - 64) = omega arith in
           let rest = joined_bytes lines (rest_whole first lines each) (offset - 64) in
-          let there = get_right first (concat lines) (offset - 64) in
+          let there = got_right first (concat lines) (offset - 64) in
           rw (line, place) (rest ∙ sym there ∙ ap (λ (i : ℕ). slice_get (first ++ concat lines) i) (sym at))
     ]
 

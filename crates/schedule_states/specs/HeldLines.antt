@@ -1,5 +1,6 @@
 -- The lines of the address space that aren't as they were at the start, each with the number of its state.
-use Rattle.std.specs.Prelude.{ℕ, ◌==◌, ◌<◌, not, nat_le, nat_lt, Bool, List, [], ◌∷◌, Option, Some, None, filter, if◌then◌else◌}
+use Rattle.std.specs.Prelude.{ℕ, ◌==◌, ◌<◌, ◌++◌, not, nat_le, nat_lt, Bool, List, [], ◌∷◌, Option, Some, None, filter, map, if◌then◌else◌}
+use Rattle.std.specs.Global.{Vec}
 use Rattle.std.specs.List.{AllByRecursion}
 use Rattle.schedule_states.specs.declared.held_lines.HeldLine.{HeldLine}
 
@@ -27,3 +28,8 @@ on_medium held = filter is_of_medium held
 -- each number is below this one
 abbrev pub AreBelow : ℕ → List HeldLine → Type 0
 AreBelow count held = AllByRecursion (λ h. h.state < count) held
+
+-- lists, and those behind them that a look has found, if it may find any
+abbrev pub lists_in : List (Vec HeldLine) → Option (Vec (Vec HeldLine)) → List (List HeldLine)
+lists_in lists None = map (λ list. list.items) lists
+lists_in lists (Some further) = map (λ list. list.items) (lists ++ further.items)

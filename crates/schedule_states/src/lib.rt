@@ -13,6 +13,7 @@ mod laws;
 mod leads;
 mod line_state;
 mod line_table;
+mod looked;
 mod medium_lists;
 mod memory_lists;
 mod mixing;

@@ -284,6 +284,13 @@ impl<'a> LineTable<'a> {
         number
     }
 
+    /// How many states there are.
+    pub fn count(&self) -> usize
+        ensures { result ≡ length self.now.states }
+    {
+        self.states.count()
+    }
+
     /// How many bytes the states hold.
     pub fn bytes(&self) -> u128
         ensures bytes { result ≡ line_bytes self.now.states }

@@ -10,9 +10,10 @@ ghost use Rattle.schedule_states.specs.Turns.{MayClaim};
 
 use crate::known_turns::{KnownTurns, Look, look_at};
 use crate::laws::equal_moments_are_same;
+use crate::looked::Looked;
 use crate::medium_lists::MediumLists;
 use crate::numbers::Numbers;
-use crate::reached::{Reached, Stop, Turns};
+use crate::reached::{Reached, Stop};
 use crate::state_judge::StateJudge;
 use crate::ways::Ways;
 use std::alloc::{AllocError, Global};
@@ -162,7 +163,7 @@ fn judge_and_look<T: Threads + Sync, J: StateJudge + Sync>(
     reached: &Reached<'_, J>,
     judged: &mut Judged,
     workspace: &mut J::Workspace,
-    turns: &mut Vec<Option<Turns>>,
+    turns: &mut Vec<Option<Looked>>,
 ) -> Result<(), AllocError>
     requires there { (judged.old.good + length turns.old.items ≤ length reached.now.states) × (length turns.old.items < 2 ^ 32) × (judged.old.good + 1 < 2 ^ 32)
         × (judged.old.stop ≡ None) × (0 < length turns.old.items) × (0 < judged.old.known.workers) }

@@ -67,9 +67,10 @@ impl<'a, T: Eq + Hash + Drop> Numbers<'a, T> {
 
     /// How many values there are.
     pub fn count(&self) -> usize
-        ensures { result ≡ length self.now }
+        ensures count { result ≡ length self.now }
+        ensures few { result < 2 ^ 63 }
     {
-        self.as_slice().len()
+        self.values.set().len()
     }
 
     /// The number of a value, which is a new one where it has none yet. Over 2^32 values count as out of memory.

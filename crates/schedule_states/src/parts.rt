@@ -82,16 +82,16 @@ impl<'a> Parts<'a> {
         })
     }
 
-    /// The same parts, lent for a look.
-    pub fn lent(&self) -> Parts<'_>
-        ensures { result ≡ self.now }
+    /// The same parts, lent for a look, which may find further lists; None where they are lent themselves.
+    pub fn lent(&self, alloc: Global) -> Option<Parts<'_>>
+        ensures { IfSome result (λ lent. lent ≡ self.now) }
     {
-        Parts {
+        Some(Parts {
+            lists: self.lists.lent(alloc)?,
             lines: self.lines.lent(),
-            lists: self.lists.lent(),
             text: self.text,
             claims: self.claims,
-        }
+        })
     }
 
     /// The state at the start of a run of one to eight harts, unless one of them makes too many steps up to its first request.
@@ -324,7 +324,7 @@ impl<'a> Parts<'a> {
     }
 
     /// The number of a list of lines.
-    fn number_of(&mut self, lines: Vec<HeldLine>) -> Result<u32, AllocError>
+    pub(crate) fn number_of(&mut self, lines: Vec<HeldLine>) -> Result<u32, AllocError>
         requires below { AreBelow (length self.old.table.states) lines.items }
         ensures number { IfOk result (λ number. slice_get self.new.lists number ≡ Some lines.items) }
         ensures there { IfOk result (λ number. number < length self.new.lists) }
@@ -420,6 +420,13 @@ impl<'a> Parts<'a> {
         ensures { result ≡ record { start = self.now.table.start; states = self.now.table.states; held = held.now } }
     {
         self.lines.memory(held)
+    }
+
+    /// How many states lines have come to have.
+    pub(crate) fn states(&self) -> usize
+        ensures { result ≡ length self.now.table.states }
+    {
+        self.lines.count()
     }
 
     /// Whether this is the number of a list.

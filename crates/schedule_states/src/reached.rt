@@ -7,10 +7,11 @@ ghost use Rattle.schedule_states.specs.Covering.{CoversAt, IsClosedAt, IsMet, Pa
 ghost use Rattle.schedule_states.specs.Numbers.{AreKept};
 ghost use Rattle.schedule_states.specs.Ending.{AreTurnsAt, HavePartsStopped};
 ghost use Rattle.schedule_states.specs.Happening.{AreLed, HasHappenedAt};
+ghost use Rattle.schedule_states.specs.HeldLines.{AreBelow};
 ghost use Rattle.schedule_states.specs.Judging.{IsGoodMoment, StaysGood};
 ghost use Rattle.schedule_states.specs.Leads.{AreOfHarts};
 ghost use Rattle.schedule_states.specs.Media.{AreOnMedium};
-ghost use Rattle.schedule_states.specs.Onward.{AreAllKnown, AreTurnsFrom, AreTurnsTo, HasParts, HasPlace, IsKnownTurn, IsPlaced, IsTurnOfParts, IsTurnTo, MayHaveOneMore, only};
+ghost use Rattle.schedule_states.specs.Onward.{AreAllKnown, AreLookedFrom, AreTurnsFrom, AreTurnsTo, HasParts, HasPlace, IsFoundOf, IsFoundTurn, IsKnownTurn, IsListedOf, IsPlaced, IsTurnOfParts, IsTurnTo, MayHaveOneMore, only, with_memory};
 ghost use Rattle.schedule_states.specs.Reaching.{AreNumbered, AreNumbersBefore, AreNumbersOf, ArePartsOf, AreThere, HaveGrown, IsFirst, IsKeptOn, WereBefore};
 ghost use Rattle.schedule_states.specs.Sizes.{reached_bytes};
 ghost use Rattle.schedule_states.specs.States.{AreLists};
@@ -22,6 +23,7 @@ ghost use Rattle.schedule_states.specs.declared.program_state.StateNumbers.{Stat
 
 use crate::laws::{equal_numbers_are_same, equal_parts_are_same, equal_reserved_are_same};
 use crate::leads::{Lead, Leads};
+use crate::looked::{FoundTurn, ListedTurn, Looked};
 use crate::moments::{Judged, Moment};
 use crate::numbers::Numbers;
 use crate::parts::{Parts, SlowHart};
@@ -255,11 +257,11 @@ impl<'a, J: StateJudge> Reached<'a, J> {
         alloc: Global,
         judge: &J,
         number: u32,
-        known: Option<&Turns>,
+        known: Option<&Looked>,
     ) -> Result<Result<[u32; 8], Stop>, AllocError>
         requires there { number < length self.old.states }
         requires claims { MayClaim (J.allows judge.now) self.old.parts.claims }
-        requires known { IfSome known (λ turns. AreTurnsFrom (J.stands judge.now) (J.allows judge.now) (J.ends judge.now) self.old number turns.now) }
+        requires known { IfSome known (λ looked. AreLookedFrom (J.stands judge.now) (J.allows judge.now) (J.ends judge.now) self.old number looked.now) }
         ensures closed { IfOk result (λ gone. IfOk gone (λ to. IsClosedAt (J.stands judge.now) (J.allows judge.now) (J.ends judge.now) self.new number)) }
         ensures turns { IfOk result (λ gone. IfOk gone (AreTurnsAt (J.stands judge.now) (J.allows judge.now) self.new number)) }
         ensures led { IfOk result (λ gone. IfOk gone (λ to. AreLed (J.stands judge.now) (J.allows judge.now) self.old →
@@ -283,11 +285,11 @@ impl<'a, J: StateJudge> Reached<'a, J> {
         alloc: Global,
         judge: &J,
         number: u32,
-        known: Option<&Turns>,
+        known: Option<&Looked>,
     ) -> Result<Result<Turns, Stop>, AllocError>
         requires there { number < length self.old.states }
         requires claims { MayClaim (J.allows judge.now) self.old.parts.claims }
-        requires known { IfSome known (λ turns. AreTurnsFrom (J.stands judge.now) (J.allows judge.now) (J.ends judge.now) self.old number turns.now) }
+        requires known { IfSome known (λ looked. AreLookedFrom (J.stands judge.now) (J.allows judge.now) (J.ends judge.now) self.old number looked.now) }
         ensures turns { IfOk result (λ looked. IfOk looked (λ turns.
             AreTurnsFrom (J.stands judge.now) (J.allows judge.now) (J.ends judge.now) self.new number turns × AreAllKnown self.new.harts turns)) }
         ensures grown { HaveGrown self.old self.new }
@@ -295,18 +297,80 @@ impl<'a, J: StateJudge> Reached<'a, J> {
         ensures states { self.new.states ≡ self.old.states }
     {
         match known {
-            Some(turns) if are_all_known(turns, self.leads.harts()) => Ok(Ok(*turns)),
-            Some(turns) => self.look(alloc, judge, number, turns),
+            Some(looked) => self.turns_after(alloc, judge, number, looked),
             None => self.look(alloc, judge, number, &[None; 8]),
         }
     }
 
-    /// What is known of the turns of the harts at a state: of each that leads to a state of parts that have numbers already. None where a hart has
-    /// stopped as it may not, or memory is refused. Many may look at once.
-    pub fn known_turns(&self, alloc: Global, judge: &J, number: u32) -> Option<Turns>
+    /// To what they lead, after a look that has found some of them.
+    fn turns_after(
+        &mut self,
+        alloc: Global,
+        judge: &J,
+        number: u32,
+        looked: &Looked,
+    ) -> Result<Result<Turns, Stop>, AllocError>
+        requires there { number < length self.old.states }
+        requires claims { MayClaim (J.allows judge.now) self.old.parts.claims }
+        requires looked { AreLookedFrom (J.stands judge.now) (J.allows judge.now) (J.ends judge.now) self.old number looked.now }
+        ensures turns { IfOk result (λ gone. IfOk gone (λ turns.
+            AreTurnsFrom (J.stands judge.now) (J.allows judge.now) (J.ends judge.now) self.new number turns × AreAllKnown self.new.harts turns)) }
+        ensures grown { HaveGrown self.old self.new × WereBefore self.old.parts self.new.parts × (self.new.states ≡ self.old.states) }
+    {
+        let turns = self.numbered(alloc, judge, number, looked)?;
+        if are_all_known(&turns, self.leads.harts()) {
+            return Ok(Ok(turns));
+        }
+        self.look(alloc, judge, number, &turns)
+    }
+
+    /// The turns from the state of a number that a look has found, once each list among them has a number.
+    fn numbered(
+        &mut self,
+        alloc: Global,
+        judge: &J,
+        number: u32,
+        looked: &Looked,
+    ) -> Result<Turns, AllocError>
+        requires { AreLookedFrom (J.stands judge.now) (J.allows judge.now) (J.ends judge.now) self.old number looked.now }
+        ensures turns { IfOk result (AreTurnsFrom (J.stands judge.now) (J.allows judge.now) (J.ends judge.now) self.new number) }
+        ensures grown { HaveGrown self.old self.new × WereBefore self.old.parts self.new.parts × (self.new.states ≡ self.old.states) }
+    {
+        self.are_numbered();
+        let mut turns = looked.turns;
+        for listed in &looked.listed {
+            let numbers = self.listed_numbers(alloc, listed)?;
+            turns[listed.hart as usize] = Some(Turn::Parts(numbers));
+        }
+        Ok(turns)
+    }
+
+    /// The numbers of the parts to which such a turn leads, once its list has one.
+    fn listed_numbers(
+        &mut self,
+        alloc: Global,
+        listed: &ListedTurn,
+    ) -> Result<StateNumbers, AllocError>
+        requires below { AreBelow (length self.old.parts.table.states) listed.now.list.items }
+        ensures numbers { IfOk result (λ numbers. (numbers ≡ with_memory listed.now.numbers numbers.memory)
+            × (slice_get self.new.parts.lists numbers.memory ≡ Some listed.now.list.items)) }
+        ensures grown { HaveGrown self.old self.new × WereBefore self.old.parts self.new.parts × (self.new.states ≡ self.old.states) }
+    {
+        self.parts.lists_are_there();
+        let list = Vec::from_slice(alloc, &listed.list)?;
+        let memory = self.parts.number_of(list)?;
+        Ok(StateNumbers {
+            memory,
+            ..listed.numbers
+        })
+    }
+
+    /// What is found of the turns of the harts at a state: of each that leads to a state of parts that have numbers already, but for its list of held
+    /// lines. None where a hart has stopped as it may not, or memory is refused. Many may look at once.
+    pub fn known_turns(&self, alloc: Global, judge: &J, number: u32) -> Option<Looked>
         requires there { number < length self.now.states }
         requires claims { MayClaim (J.allows judge.now) self.now.parts.claims }
-        ensures { IfSome result (AreTurnsFrom (J.stands judge.now) (J.allows judge.now) (J.ends judge.now) self.now number) }
+        ensures { IfSome result (AreLookedFrom (J.stands judge.now) (J.allows judge.now) (J.ends judge.now) self.now number) }
     {
         self.are_numbered();
         let numbers = self.numbers(number);
@@ -317,14 +381,20 @@ impl<'a, J: StateJudge> Reached<'a, J> {
             return None;
         }
         let mut turns = [None; 8];
+        let mut listed = Vec::new(alloc);
         let harts = self.leads.harts();
         for hart in 0..harts {
-            turns[hart as usize] = self.known_turn(alloc, judge, &state, &numbers, hart);
+            match self.known_turn(alloc, judge, &state, &numbers, hart) {
+                Some(FoundTurn::Known(turn)) => turns[hart as usize] = Some(turn),
+                Some(FoundTurn::Listed(turn)) => listed.push(turn).ok()?,
+                None => {}
+            }
         }
-        Some(turns)
+        Some(Looked { turns, listed })
     }
 
-    /// To what the turn of a hart leads from a state, whose parts have these numbers, where the parts of the next one have numbers, too.
+    /// To what the turn of a hart leads from a state, whose parts have these numbers, where the parts of the next one have numbers, too, but for its
+    /// list of held lines.
     fn known_turn(
         &self,
         alloc: Global,
@@ -332,34 +402,79 @@ impl<'a, J: StateJudge> Reached<'a, J> {
         state: &ProgramState,
         numbers: &StateNumbers,
         hart: u32,
-    ) -> Option<Turn>
+    ) -> Option<FoundTurn>
         requires there { hart < self.now.harts }
         requires parts { ArePartsOf self.now numbers.now self.now.harts state.now.harts.items }
         requires lists { HasLists self.now.parts state.now }
         requires standing { numbers.now.standing < length self.now.standings }
         requires claims { MayClaim (J.allows judge.now) self.now.parts.claims }
-        ensures { IfSome result (λ turn. (t : J.Standing) → slice_get self.now.standings numbers.now.standing ≡ Some t →
-            IsKnownTurn (J.stands judge.now) (J.allows judge.now) self.now state.now t hart turn) }
+        ensures { IfSome result (λ found. (t : J.Standing) → slice_get self.now.standings numbers.now.standing ≡ Some t →
+            IsFoundTurn (J.stands judge.now) (J.allows judge.now) self.now state.now t hart found) }
     {
         self.are_numbered();
-        let mut lent = self.lent(alloc);
+        self.parts.lists_are_there();
+        let mut lent = self.lent(alloc)?;
         match lent.turn(alloc, judge, state, numbers, hart) {
-            Ok(Ok(next)) => self.placed(next),
+            Ok(Ok(next)) => self.found(alloc, hart, next, lent.parts()),
             _ => None,
         }
     }
 
-    /// The same states, lent for a look: what has no number there gets none, as if memory were refused for it.
-    fn lent(&self, alloc: Global) -> Reached<'_, J>
-        ensures { result ≡ self.now }
+    /// The same states, lent for a look: what has no number there gets none, as if memory were refused for it, but for lists of held lines. None
+    /// where they are lent themselves.
+    fn lent(&self, alloc: Global) -> Option<Reached<'_, J>>
+        ensures { IfSome result (λ lent. lent ≡ self.now) }
     {
-        Reached {
-            parts: self.parts.lent(),
+        Some(Reached {
+            parts: self.parts.lent(alloc)?,
             hart_parts: self.hart_parts.lent(),
             standings: self.standings.lent(),
             states: self.states.lent(),
             leads: Leads::new(alloc, self.leads.harts()),
+        })
+    }
+
+    /// What is found of the turn of a hart, where it leads to the state with parts of these numbers, if to one, by the lists of a look.
+    fn found(
+        &self,
+        alloc: Global,
+        hart: u32,
+        next: Option<StateNumbers>,
+        look: &Parts<'_>,
+    ) -> Option<FoundTurn>
+        requires few { hart < 8 }
+        requires there { IfSome next (λ numbers. numbers.memory < length look.now.lists) }
+        ensures { IfSome result (IsFoundOf self.now look.now hart next) }
+    {
+        if let Some(turn) = self.placed(next) {
+            return Some(FoundTurn::Known(turn));
         }
+        let listed = self.listed(alloc, hart, next?, look)?;
+        Some(FoundTurn::Listed(listed))
+    }
+
+    /// A turn that leads to the state with parts of these numbers, whose list stands in the tables of a look; None where the others aren't those of
+    /// parts that are there.
+    fn listed(
+        &self,
+        alloc: Global,
+        hart: u32,
+        numbers: StateNumbers,
+        look: &Parts<'_>,
+    ) -> Option<ListedTurn>
+        requires few { hart < 8 }
+        requires there { numbers.memory < length look.now.lists }
+        ensures { IfSome result (IsListedOf self.now look.now hart numbers) }
+    {
+        if look.states() != self.parts.states() || !self.are_others_there(&numbers) {
+            return None;
+        }
+        let list = Vec::from_slice(alloc, look.held(numbers.memory)).ok()?;
+        Some(ListedTurn {
+            hart,
+            numbers,
+            list,
+        })
     }
 
     /// A turn that leads to the state with parts of these numbers, if it leads to one; None where they aren't those of parts that are there.
@@ -391,9 +506,14 @@ impl<'a, J: StateJudge> Reached<'a, J> {
     fn is_there(&self, numbers: &StateNumbers) -> bool
         ensures { result ≡ true → AreThere self.now numbers.now }
     {
-        if !self.parts.has_list(numbers.memory)
-            || numbers.standing as usize >= self.standings.as_slice().len()
-        {
+        self.parts.has_list(numbers.memory) && self.are_others_there(numbers)
+    }
+
+    /// Whether they are, but for that of the memory.
+    fn are_others_there(&self, numbers: &StateNumbers) -> bool
+        ensures { result ≡ true → (memory : ℕ) → memory < length self.now.parts.lists → AreThere self.now (with_memory numbers.now memory) }
+    {
+        if numbers.standing as usize >= self.standings.count() {
             return false;
         }
         let count = self.leads.harts();

@@ -1,14 +1,15 @@
 //! The index while the events are read, the oldest first.
 
-ghost use Rattle.crash_image.specs.Lines.{AreLines};
+ghost use Rattle.crash_image.specs.Lines.{AreLines, unstored};
 ghost use Rattle.crash_image.specs.Pendings.{AreIndexed, IsHartPending, IsRaising};
 ghost use Rattle.store_trace.specs.declared.crash_model.step.PersistenceStep.{PersistenceStep};
 ghost use Rattle.store_trace.specs.declared.crash_model.step.PersistenceStep.TheVariants as step;
 ghost use Rattle.store_trace.specs.History.{at_moment};
 ghost use Rattle.store_trace.specs.TraceView.{IsEvent, NamesLine};
-ghost use Rattle.std.specs.Prelude.{◌≡◌, ℕ, ◌+◌, ◌<◌, ◌≤◌, ◌∷◌, List, [], length, replicate, All, IfOk};
+ghost use Rattle.std.specs.Prelude.{◌≡◌, ℕ, ◌+◌, ◌<◌, ◌≤◌, ◌∷◌, List, [], length, slice_index_or, All, IfOk};
 
-use crate::trace_index::line::LineIndex;
+use crate::trace_index::line::Stored;
+use crate::trace_index::table::LineTable;
 use line_memory::Medium;
 use std::alloc::{AllocError, Global};
 use store_trace::{Event, MAX_HARTS};
@@ -22,34 +23,18 @@ pub struct Clean {
 }
 
 /// The lines of the index of these events.
-pub fn lines_of(
-    alloc: Global,
-    medium: &Medium,
-    events: &[Event],
-) -> Result<Vec<LineIndex>, AllocError>
+pub fn lines_of(alloc: Global, medium: &Medium, events: &[Event]) -> Result<LineTable, AllocError>
     requires each { All IsEvent events.now }
     requires named { All (NamesLine (length medium.now)) events.now }
     requires limit { length events.now ≤ 65536 }
-    ensures { IfOk result (λ lines. AreLines medium.now (at_moment events.now) (length events.now) lines.items) }
+    ensures { IfOk result (λ lines. AreLines medium.now (at_moment events.now) (length events.now) lines) }
 {
-    let mut lines = no_lines(alloc, medium.lines())?;
+    let mut lines = LineTable::new(alloc, medium.lines())?;
     let mut pending = no_cleans(alloc)?;
     for at in 0..events.len() {
-        read(medium, &mut lines, &mut pending, events, at)?;
+        read(alloc, medium, &mut lines, &mut pending, events, at)?;
     }
     Ok(lines)
-}
-
-fn no_lines(alloc: Global, count: u32) -> Result<Vec<LineIndex>, AllocError>
-    ensures size { IfOk result (λ made. length made.items ≡ count) }
-    ensures stores { IfOk result (λ made. All (λ line. line.stores ≡ []) made.items) }
-    ensures raises { IfOk result (λ made. All (λ line. line.raises ≡ []) made.items) }
-{
-    let mut made = Vec::with_capacity(alloc, count as usize)?;
-    for _line in 0..count {
-        made.push(LineIndex::new(alloc))?;
-    }
-    Ok(made)
 }
 
 fn no_cleans(alloc: Global) -> Result<Vec<Vec<Clean>>, AllocError>
@@ -65,8 +50,9 @@ fn no_cleans(alloc: Global) -> Result<Vec<Vec<Clean>>, AllocError>
 
 /// Takes the index one event further.
 fn read(
+    alloc: Global,
     medium: &Medium,
-    lines: &mut [LineIndex],
+    lines: &mut LineTable,
     pending: &mut [Vec<Clean>],
     events: &[Event],
     at: usize,
@@ -87,16 +73,22 @@ fn read(
             ..
         } => {
             let start = medium.read_line(line);
-            lines[line as usize].store(start, at as u32, offset, width, value)?;
+            let store = Stored {
+                event: at as u32,
+                offset,
+                width,
+                value,
+            };
+            lines.store(alloc, line, start, store)?;
             Ok(())
         }
         Event::Clean { hart, line } => {
-            let stores = lines[line as usize].count() as u32;
+            let stores = count(lines, line) as u32;
             pending[hart as usize].push(Clean { line, stores })?;
             Ok(())
         }
         Event::Fence { hart } => {
-            raise_all(lines, &pending[hart as usize], at as u32)?;
+            raise_all(alloc, lines, &pending[hart as usize], at as u32)?;
             pending[hart as usize].clear();
             Ok(())
         }
@@ -104,8 +96,24 @@ fn read(
     }
 }
 
+/// How many stores the line has.
+fn count(lines: &LineTable, line: u32) -> usize
+    requires { line < length lines.now }
+    ensures { result ≡ length (slice_index_or lines.now line unstored).stores }
+{
+    match lines.line(line) {
+        Some(line) => line.count(),
+        None => 0,
+    }
+}
+
 /// Raises the floors of the cleaned lines to at least what they had then, by the fence of the event at this place.
-fn raise_all(lines: &mut [LineIndex], cleans: &[Clean], event: u32) -> Result<(), AllocError>
+fn raise_all(
+    alloc: Global,
+    lines: &mut LineTable,
+    cleans: &[Clean],
+    event: u32,
+) -> Result<(), AllocError>
     requires { All (λ clean. clean.line < length lines.old) cleans.now }
     ensures { IfOk result (λ _. (start : List (List ℕ)) (past : ℕ → List PersistenceStep) (hart : ℕ) →
         past (event + 1) ≡ step.Fence hart ∷ past event →
@@ -113,7 +121,7 @@ fn raise_all(lines: &mut [LineIndex], cleans: &[Clean], event: u32) -> Result<()
         AreLines start past event lines.old → AreLines start past (event + 1) lines.new) }
 {
     for clean in cleans {
-        lines[clean.line as usize].raise(event, clean.stores)?;
+        lines.raise(alloc, clean.line, event, clean.stores)?;
     }
     Ok(())
 }

@@ -9,7 +9,7 @@ ghost use Rattle.store_trace.specs.TraceView.{NamesLine};
 ghost use Rattle.std.specs.Prelude.{◌≡◌, ℕ, ◌<◌, ◌≤◌, length, All, IfOk};
 
 use crate::trace_index::build::lines_of;
-use crate::trace_index::line::LineIndex;
+use crate::trace_index::table::LineTable;
 use line_memory::Medium;
 use std::alloc::{AllocError, Global};
 use std::marker::Model;
@@ -23,7 +23,7 @@ use store_trace::{Event, Trace};
 pub struct TraceIndex<'a> {
     medium: &'a Medium,
     events: &'a [Event],
-    lines: Vec<LineIndex>,
+    lines: LineTable,
 }
 
 impl<'a> Model for TraceIndex<'a> {
@@ -37,13 +37,13 @@ impl<'a> Model for TraceIndex<'a> {
     ghost view = { λ i. record { start = i.medium.now; events = i.events.now } };
 
     ghost invariant = { λ i. (length i.events.now ≤ 65536)
-        × AreLines i.medium.now (at_moment i.events.now) (length i.events.now) i.lines.items };
+        × AreLines i.medium.now (at_moment i.events.now) (length i.events.now) i.lines };
 }
 
 impl<'a> TraceIndex<'a> {
     /// The index of the trace, which started from the medium, by one pass over the events. For a store it takes
     /// the 64 bytes of its line and a number, for a fence at most two numbers for each line that its hart cleaned,
-    /// and for a line a fixed size.
+    /// and a fixed size for each 64 lines of which one is stored to.
     pub fn new(
         alloc: Global,
         medium: &'a Medium,
@@ -77,7 +77,10 @@ impl<'a> TraceIndex<'a> {
         requires moment { moment ≤ length self.now.events }
         ensures { result ≡ stores line (at_moment self.now.events moment) }
     {
-        self.lines[line as usize].stores_at(moment) as u32
+        match self.lines.line(line) {
+            Some(index) => index.stores_at(moment) as u32,
+            None => 0,
+        }
     }
 
     /// How many of the line's first stores are in the medium for certain at the moment.
@@ -87,7 +90,10 @@ impl<'a> TraceIndex<'a> {
         requires moment { moment ≤ length self.now.events }
         ensures { result ≡ floor line (at_moment self.now.events moment) }
     {
-        self.lines[line as usize].floor_at(moment)
+        match self.lines.line(line) {
+            Some(index) => index.floor_at(moment),
+            None => 0,
+        }
     }
 
     /// The bytes of the line after its first `number` stores, at each moment that has them.
@@ -101,6 +107,9 @@ impl<'a> TraceIndex<'a> {
             result.now ≡ line_after (line_at self.now.start line) line number (at_moment self.now.events moment) }
     {
         let start = self.medium.read_line(line);
-        self.lines[line as usize].bytes(start, number as usize)
+        match self.lines.line(line) {
+            Some(index) => index.bytes(start, number as usize),
+            None => start,
+        }
     }
 }

@@ -1,9 +1,9 @@
 //! What the index keeps of one line: its stores, and the fences at which its floor rises.
 
-ghost use Rattle.crash_image.specs.Lines.{AreBefore, IsPlace, bytes_before, floor_before, raise_event, raised_to, store_event};
+ghost use Rattle.crash_image.specs.Lines.{AreBefore, FitsLine, IsPlace, bytes_before, floor_before, raise_event, raised_to, store_event, unstored, with_store};
 ghost use Rattle.store_trace.specs.TraceView.{IsWidth};
 ghost use Rattle.word_bits.specs.Bytes.{stored};
-ghost use Rattle.std.specs.Prelude.{◌≡◌, ℕ, ◌-◌, ◌<◌, ◌≤◌, ◌%◌, ◌++◌, ◌∷◌, [], length, IfOk, IsTrue};
+ghost use Rattle.std.specs.Prelude.{◌≡◌, ℕ, ◌-◌, ◌<◌, ◌≤◌, ◌%◌, ◌++◌, ◌∷◌, [], length, IfOk, IsTrue, OnOk};
 
 use line_memory::store_bytes;
 use std::alloc::{AllocError, Global};
@@ -16,6 +16,15 @@ pub struct StoredLine {
     pub event: u32,
     /// The bytes of the line after the store.
     pub bytes: [u8; 64],
+}
+
+/// A store of the low `width` bytes of `value`, by the event at this place of the trace.
+#[derive(Clone, Copy)]
+pub struct Stored {
+    pub event: u32,
+    pub offset: u32,
+    pub width: u32,
+    pub value: u64,
 }
 
 /// A fence that raised the floor of a line.
@@ -54,8 +63,7 @@ impl Model for LineIndex {
 impl LineIndex {
     /// A line before the first event. Empty lists take no memory.
     pub fn new(alloc: Global) -> LineIndex
-        ensures stores { result.stores ≡ [] }
-        ensures raises { result.raises ≡ [] }
+        ensures { result ≡ unstored }
     {
         LineIndex {
             stores: Vec::new(alloc),
@@ -65,23 +73,15 @@ impl LineIndex {
         }
     }
 
-    /// Adds a store of the low `width` bytes of `value`, of the event at this place. The line started with `start`.
-    pub fn store(
-        &mut self,
-        start: &[u8; 64],
-        event: u32,
-        offset: u32,
-        width: u32,
-        value: u64,
-    ) -> Result<(), AllocError>
-        requires width { IsWidth width }
-        requires aligned { offset % width ≡ 0 }
-        requires offset { offset < 64 }
-        ensures stores { IfOk result (λ _. self.new.stores ≡ self.old.stores ++ record { event = event; bytes = stored (bytes_before start.now self.old.stores (length self.old.stores)) offset width value } ∷ []) }
+    /// Adds a store. The line started with `start`.
+    pub fn store(&mut self, start: &[u8; 64], store: Stored) -> Result<(), AllocError>
+        requires { FitsLine store }
+        ensures stores { OnOk result (self.new.stores ≡ with_store start.now self.old.stores store) }
         ensures raises { self.new.raises ≡ self.old.raises }
     {
         let mut bytes = *bytes_after(start, &self.stores, self.stores.len());
-        store_in_line(&mut bytes, offset, width, value);
+        store_in_line(&mut bytes, store.offset, store.width, store.value);
+        let event = store.event;
         self.stores.push(StoredLine { event, bytes })?;
         self.last = self.last.max(event);
         Ok(())

@@ -1,4 +1,3 @@
-use Rattle.store_trace.specs.declared.event.Event.{Event}
 use Rattle.store_trace.specs.declared.event.Event.TheVariants.{Store}
 use Rattle.image_check.proofs.Leaving.{kept_still, kept_store}
 use Rattle.image_check.proofs.moment_judge.leave_next.Goals as goal

@@ -8,7 +8,6 @@ use Rattle.image_check.specs.Images.{IsFoundBy}
 use Rattle.image_check.specs.RunViews.{RunView}
 use Rattle.image_check.specs.Verdicts.{IsMomentVerdict}
 use Rattle.store_trace.specs.History.{at_moment}
-use Rattle.verdict.specs.CutImages.{image_at}
 use Rattle.image_check.proofs.Apart.{sound_apart}
 use Rattle.image_check.proofs.Leaving.{kept_as}
 use Rattle.image_check.proofs.Opening.{images_whole, of_same_numbers, opened_moment}

@@ -1,5 +1,4 @@
 use Rattle.std.proofs.Common.{◌∙◌, sym, true≢false}
-use Rattle.std.proofs.lemmas.List.Elements.{Contains-get_or}
 use Rattle.store_trace.proofs.Marking.{event_here}
 use Rattle.store_trace.specs.declared.event.Event.TheVariants.{Begin}
 use Rattle.image_check.proofs.Faulting.{end_ended, end_faultless, end_unbegun, end_unknown}

@@ -1,4 +1,4 @@
-use Rattle.std.proofs.Common.{◌≡◌, ◌+◌, List, ◌++◌, ◌∷◌, [], get_or, take, sym, subst}
+use Rattle.std.proofs.Common.{List, sym, subst}
 use Rattle.std.proofs.lemmas.List.{take_more}
 use Rattle.store_trace.specs.declared.event.Event.{Event}
 use Rattle.image_check.specs.OrderFaults.{AreNoted}

@@ -1,5 +1,5 @@
 use Rattle.nova_log.proofs.Keeping.{each_one}
-use Rattle.std.proofs.Common.{◌≢◌, ◌<◌, arith}
+use Rattle.std.proofs.Common.{◌≢◌, arith}
 use Rattle.image_check.proofs.plan_images.is_without.Goals as goal
 
 pub returns : goal.returns

@@ -6,8 +6,9 @@ use Rattle.schedule_states.proofs.Closing.{closed_all, closed_next, covers_at_ke
 use Rattle.schedule_states.proofs.Covered.{ends_either, good_either, may_claim, reduce_at}
 use Rattle.schedule_states.proofs.Happening.{happening}
 use Rattle.schedule_states.proofs.Judging.{judged_kept, leads_found, nowhere_found, nowhere_more, told_found, told_more}
+use Rattle.schedule_states.proofs.Listing.{known_kept, known_none, known_of}
 use Rattle.schedule_states.proofs.Looking.{within_kept}
-use Rattle.schedule_states.proofs.Onward.{known_kept, known_none, known_of, some_then}
+use Rattle.schedule_states.proofs.Onward.{some_then}
 use Rattle.schedule_states.proofs.Turning.{turns_next}
 use Rattle.schedule_states.specs.Covering.{IsClosed, IsClosedAt}
 use Rattle.schedule_states.specs.Ending.{AreTurnsBelow}

@@ -1,4 +1,4 @@
-use Rattle.std.proofs.Common.{◌≡◌, ◌<◌, ℕ, arith}
+use Rattle.std.proofs.Common.{◌<◌}
 use Rattle.schedule_states.proofs.Judging.{below_noted}
 use Rattle.schedule_states.proofs.moments.judge_up_to.Goals as goal
 

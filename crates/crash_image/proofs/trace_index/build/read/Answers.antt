@@ -3,6 +3,7 @@ use Rattle.store_trace.specs.Stores.{stores}
 use Rattle.store_trace.specs.History.{at_moment, steps_of}
 use Rattle.store_trace.specs.declared.event.Event.{Event}
 use Rattle.store_trace.specs.declared.event.Event.TheVariants.{Store}
+use Rattle.crash_image.specs.Lines.{unstored}
 use Rattle.crash_image.proofs.Indexed.{indexed_cleaned, indexed_fenced, indexed_stays, indexed_stored, moment_more}
 use Rattle.crash_image.proofs.trace_index.build.read.Goals as goal
 
@@ -16,10 +17,11 @@ returns-in_ok-store-in-Store c =
     let none : Event = Store 0 0 0 0 0 in
     let named = rw c.in-Store.is at (c.requires.named c.args.at none c.requires.there) in
     let e = more c.args.events.now c.args.at _ c.requires.there c.in-Store.is in
-    let made = rw c.read_line-start.ensures.value at c.in_ok-store-in-Store.ensures.stores in
-    indexed_stored c.args.medium.now (at_moment c.args.events.now) c.args.at c.args.lines.now c.args.pending.now
-    c.in-Store.line c.in-Store.offset c.in-Store.width c.in-Store.value c.index-lines-line.result c.store.new.self
-    named e made c.in_ok-store-in-Store.ensures.raises c.requires.before
+    let stored = c.in_ok-store-in-Store.ensures in
+    let made = rw c.read_line-start.ensures.value at stored.stores in
+    rw stored.set (indexed_stored c.args.medium.now (at_moment c.args.events.now) c.args.at c.args.lines.now c.args.pending.now
+    c.in-Store.line c.in-Store.offset c.in-Store.width c.in-Store.value unstored stored.line
+    named e made stored.raises c.requires.before)
 
 pub returns-in_ok-push-in-Clean : goal.returns-in_ok-push-in-Clean
 returns-in_ok-push-in-Clean c =
@@ -27,7 +29,7 @@ returns-in_ok-push-in-Clean c =
     let named = rw c.in-Clean.is at (c.requires.named c.args.at none c.requires.there) in
     let hart = rw c.in-Clean.is at (c.requires.each c.args.at none c.requires.there) in
     let e = more c.args.events.now c.args.at _ c.requires.there c.in-Clean.is in
-    let line = c.requires.before.lines_are.each c.in-Clean.line c.index-lines-line-in-Clean.result named in
+    let line = c.requires.before.lines_are.each c.in-Clean.line unstored named in
     let count : c.count-stores.result ≡ stores c.in-Clean.line (at_moment c.args.events.now c.args.at) = c.count-stores.ensures ∙ line.stored.count in
     indexed_cleaned c.args.medium.now (at_moment c.args.events.now) c.args.at c.args.lines.now c.args.pending.now
     c.in-Clean.hart c.in-Clean.line c.count-stores.result c.index-pending-hart.result c.push.new.self hart named e

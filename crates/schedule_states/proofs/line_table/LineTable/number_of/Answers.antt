@@ -7,7 +7,7 @@ use Rattle.schedule_states.proofs.line_table.LineTable.number_of.Goals as goal
 
 pub invariant_of-self : goal.invariant_of-self
 invariant_of-self c =
-    let more : length c.self.inside.states < length c.number_of-number.new.self = omega (arith, c.if-count-known.true, c.count-known.ensures, c.count.ensures) in
+    let more : length c.self.inside.states < length c.number_of-number.new.self = omega (arith, c.if-count-known.true, c.count-known.ensures.count, c.count.ensures.count) in
     let sum : others_in c.number_of-number.new.self ≡ others_in c.self.inside.states + length c.args.state.others.items =
     sum_grown (λ (state : LineState). length state.others.items) c.self.inside.states c.number_of-number.new.self c.args.state c.number_of-number.ensures.appended more in
     let same : c.in_ok-others.others ≡ c.self.inside.others + length c.args.state.others.items = search rules in

@@ -1,6 +1,4 @@
 use Rattle.std.proofs.Common.{◌≡◌, ◌⊎◌, [], ◌∷◌, List, Some, length, slice_get, inl, inr, subst, sym, rules}
-use Rattle.line_memory.specs.declared.TheConstants.{TEXT_SIZE}
-use Rattle.schedule_states.proofs.Fetching.{text_at_start}
 use Rattle.schedule_states.proofs.Looking.{first_of_one, got_appended}
 use Rattle.schedule_states.specs.HeldLines.{AreBelow}
 use Rattle.schedule_states.specs.States.{AreLists}

@@ -1,7 +1,5 @@
-use Rattle.std.proofs.Common.{◌≡◌, ◌<◌, [], ◌∷◌, length, refl, sym, rules}
+use Rattle.std.proofs.Common.{◌≡◌, ◌<◌, [], ◌∷◌, length, refl, sym}
 use Rattle.schedule_states.proofs.Numbering.{met_of, numbered_parts, numbers_of_there}
-use Rattle.schedule_states.specs.Covering.{ReachedView}
-use Rattle.schedule_states.specs.Onward.{only}
 use Rattle.schedule_states.specs.Reaching.{AreNumbersOf}
 use Rattle.schedule_states.specs.Successors.{HasLists}
 use Rattle.schedule_states.specs.declared.program_state.StateNumbers.{StateNumbers}

@@ -1,6 +1,6 @@
 use Rattle.std.proofs.Common.{◌≡◌, true, rules}
 use Rattle.schedule_states.proofs.Onward.{parts_there_next}
-use Rattle.schedule_states.proofs.reached.Reached.is_there.Goals as goal
+use Rattle.schedule_states.proofs.reached.Reached.are_others_there.Goals as goal
 
 pub loop-hart-preserved : goal.loop-hart-preserved
 loop-hart-preserved g c =
