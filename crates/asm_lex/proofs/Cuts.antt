@@ -109,6 +109,18 @@ mark_found (b ∷ bs) h c k w = record {
   cut = mark_here b bs (grind (arith, nat_tests)) k w;
 }
 
+comma_here : (bs : List ℕ) → pieces (44 ∷ bs) ≡ (44 ∷ []) ∷ pieces bs
+unfolding is_blank is_word
+comma_here bs = mark_here 44 bs refl refl refl
+
+pub comma_found : (bs : List ℕ) → 0 < length bs → get_or bs 0 0 ≡ 44 → BeginsWithPiece bs 1
+comma_found [] h e = absurd (omega arith)
+comma_found (b ∷ bs) h e = record {
+  nonempty = omega arith;
+  in_range = omega arith;
+  cut = rw e (comma_here bs);
+}
+
 -- the scanner's step from a place: it skips blanks, and takes the piece that follows
 pub unblank_found : (bs rest : List ℕ) (n : ℕ) → n ≡ prefix_len is_blank bs → rest ≡ drop n bs → begins_blank rest ≡ false
 unblank_found bs rest n e r = rw (r, e) (unblank_after bs)

@@ -1,5 +1,7 @@
 -- What the digits of numbers are.
-use Rattle.std.proofs.Common.{◌≡◌, ℕ, ◌^◌, ◌-◌, ◌<◌, ◌≤◌, Bool, true, false, ◌&&◌, List, [], ◌∷◌, length, get_or, take, drop, take_all, refl, sym, arith}
+use Rattle.std.proofs.Common.{◌≡◌, ℕ, zero, suc, ◌+◌, ◌*◌, ◌^◌, ◌-◌, ◌<◌, ◌≤◌, Bool, true, false, ◌&&◌, List, [], ◌∷◌, length, get_or, take, drop, take_all, refl, sym, ap, ◌∙◌, arith, length-take}
+use Rattle.std.proofs.Math.Nat.{pow-le-pow_left, pow-le-pow_right}
+use Rattle.std.proofs.lemmas.Int.Digits.{digits_more, digits_value_more, digits_value-lt}
 use Rattle.std.specs.Prelude.{◌==◌, Option, Some, None, nat_lt, option_map, if◌then◌else◌}
 use Rattle.std.specs.Char.{digit_value}
 use Rattle.std.specs.Str.Parse.{AllDigits, IsNumeral, digits_value}
@@ -146,3 +148,44 @@ pub digit_first : (bs : List ℕ) (found : Option (Option ℕ)) → 0 < length b
     → option_map (λ v. number v bs) found ≡ number_of bs
 digit_first [] found some other value = absurd (omega arith)
 digit_first (b ∷ bs) found some other value = rw value (decimal_number b bs (grind (arith, nat_tests)))
+
+-- few digits, one after the other
+pub record IsShort (radix : ℕ) (digits : List ℕ) (value : ℕ) : Type 0 where
+  pub all : AllDigits radix digits
+  pub value_is : value ≡ digits_value radix digits
+
+power_below : (radix n : ℕ) → radix ≤ 16 → n ≤ 16 → radix ^ n ≤ 2 ^ 64
+power_below radix n high few =
+    let by_base = pow-le-pow_left high n in
+    let by_exponent : 16 ^ n ≤ 16 ^ 16 = pow-le-pow_right (omega arith) few in
+    let whole : 16 ^ 16 ≡ 2 ^ 64 = refl in
+    omega (arith, by_base, by_exponent, whole)
+
+pub short_start : (radix : ℕ) (digits : List ℕ) → IsShort radix (take 0 digits) 0
+short_start radix digits = record { all = tt; value_is = refl }
+
+pub short_more : (radix : ℕ) (digits : List ℕ) (i c digit value : ℕ) → radix ≤ 16 → length digits ≤ 16 → i < length digits → c ≡ get_or digits i 0
+    → digit_value c < radix → digit ≡ digit_value c → IsShort radix (take i digits) value
+    → IsShort radix (take (i + 1) digits) (value * radix + digit) × (value * radix + digit < 2 ^ 64)
+short_more radix digits i c digit value high few inside same small told short =
+    let here : digit_value (get_or digits i 0) < radix = rw same at small in
+    let all = digits_more radix digits i inside short.all here in
+    let digit_is : digit ≡ digit_value (get_or digits i 0) = told ∙ ap (λ (n : ℕ). digit_value n) same in
+    let more = digits_value_more radix digits i inside in
+    let sum : value * radix + digit ≡ digits_value radix (take (i + 1) digits) = rw (more, digit_is, short.value_is) refl in
+    let below = digits_value-lt radix (take (i + 1) digits) all in
+    let size : length (take (i + 1) digits) ≤ 16 = rw (length-take (i + 1) digits) (omega (arith, few)) in
+    let limit = power_below radix (length (take (i + 1) digits)) high size in
+    (record { all = all; value_is = sum }, omega (arith, sum, below, limit))
+
+pub short_all : (radix n : ℕ) (digits : List ℕ) → 1 ≤ length digits → IsShort radix digits n → Writes radix digits (Small n)
+short_all radix n digits some short = record { numeral = (some, short.all); value = short.value_is }
+
+digit_at : (radix : ℕ) (digits : List ℕ) (i : ℕ) → AllDigits radix digits → i < length digits → digit_value (get_or digits i 0) < radix
+digit_at radix [] i all inside = absurd (omega arith)
+digit_at radix (c ∷ digits) zero all inside = all.0
+digit_at radix (c ∷ digits) (suc i) all inside = digit_at radix digits i all.1 (omega arith)
+
+pub no_digit : (radix : ℕ) (digits : List ℕ) (i c : ℕ) → i < length digits → c ≡ get_or digits i 0 → (digit_value c < radix → ⊥)
+    → IsNumeral radix digits → ⊥
+no_digit radix digits i c inside same none n = none (rw same (digit_at radix digits i n.1 inside))

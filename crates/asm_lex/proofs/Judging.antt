@@ -1,9 +1,10 @@
 -- Whether each piece of a line is a token, as far as the pieces are looked at.
 use Rattle.std.proofs.Common.{◌≡◌, ℕ, ◌≤◌, List, [], ◌∷◌, length, drop, refl, sym, ap, ◌∙◌, arith}
-use Rattle.std.specs.Prelude.{is_some, true, false}
+use Rattle.std.specs.Prelude.{Option, is_some, true, false}
 use Rattle.std.specs.List.{slice_range}
 use Rattle.asm_lex.specs.Pieces.{pieces}
-use Rattle.asm_lex.specs.Kinds.{kind_of, are_tokens}
+use Rattle.asm_lex.specs.Kinds.{Lexeme, kind_of, are_tokens}
+use Rattle.asm_lex.specs.Tokens.{IsNextKind}
 use Rattle.asm_lex.specs.Scan.{IsNextPiece}
 
 -- the pieces before a place are tokens, so that the others decide
@@ -43,3 +44,15 @@ judged_bad line at start end judged next is =
 pub judged_all : (line : List ℕ) (at : ℕ) → IsJudgedTo line at → pieces (drop at line) ≡ [] → are_tokens (pieces line) ≡ true
 judged_all line at judged none =
     sym judged.same ∙ ap (λ (l : List (List ℕ)). are_tokens l) none ∙ none_left
+
+-- the next token by the next piece
+pub kind_found : (line : List ℕ) (from start end : ℕ) (kind : Option Lexeme) → IsNextPiece line from start end → kind ≡ kind_of (slice_range line start end)
+    → IsNextKind line from kind end
+kind_found line from start end kind next is =
+    record {
+      piece = slice_range line start end;
+      is = sym is;
+      after = omega (arith, next.after, next.nonempty);
+      in_range = next.in_range;
+      cut = next.cut;
+    }

@@ -1,8 +1,8 @@
 -- What the tokens of a line are.
-use Rattle.std.specs.Prelude.{◌≡◌, ℕ, ◌+◌, ◌≤◌, List, [], ◌∷◌, Some, true, false, length, map, All}
+use Rattle.std.specs.Prelude.{◌≡◌, ℕ, ◌+◌, ◌<◌, ◌≤◌, List, [], ◌∷◌, Option, Some, true, false, length, drop, map, All}
 use Rattle.std.specs.List.{slice_range, AllPass}
 use Rattle.asm_lex.specs.Pieces.{is_blank, pieces}
-use Rattle.asm_lex.specs.Kinds.{kind_of, lexeme_of, are_tokens}
+use Rattle.asm_lex.specs.Kinds.{Lexeme, kind_of, lexeme_of, are_tokens}
 use Rattle.asm_lex.specs.declared.LexFault.{LexFault}
 use Rattle.asm_lex.specs.declared.LexFault.TheVariants.{BadToken, Memory}
 use Rattle.asm_lex.specs.declared.Token.{Token}
@@ -37,3 +37,11 @@ pub record AreTokensOf (line : List ℕ) (number : ℕ) (ts : List Token) : Type
 abbrev pub IsFaultOf : List ℕ → LexFault → Type 0
 IsFaultOf line BadToken = are_tokens (pieces line) ≡ false
 IsFaultOf line Memory = are_tokens (pieces line) ≡ true
+
+-- after a place, the line's next piece ends at end, and is this token, if it is one
+pub record IsNextKind (line : List ℕ) (from : ℕ) (kind : Option Lexeme) (end : ℕ) : Type 0 where
+  pub piece : List ℕ
+  pub is : kind_of piece ≡ kind
+  pub after : from < end
+  pub in_range : end ≤ length line
+  pub cut : pieces (drop from line) ≡ piece ∷ pieces (drop end line)

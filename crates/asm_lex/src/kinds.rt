@@ -2,7 +2,10 @@
 
 ghost use Rattle.asm_lex.specs.Kinds.{kind_of, lexeme_of, mark_of, number, number_of, value_of};
 ghost use Rattle.asm_lex.specs.Pieces.{is_word};
-ghost use Rattle.std.specs.Prelude.{◌≡◌, ◌≤◌, ◌∷◌, option_map};
+ghost use Rattle.std.specs.Prelude.{◌≡◌, ◌≤◌, ◌∷◌, MatchOption, length, option_map};
+ghost use Rattle.std.specs.Str.Parse.{IsNumeral};
+ghost use Rattle.text.specs.Numbers.{Writes};
+ghost use Rattle.text.specs.declared.numbers.Number.TheVariants.{Small};
 
 use crate::Kind;
 use text::{Number, number_in};
@@ -15,13 +18,42 @@ pub(crate) fn is_word(byte: u8) -> bool
     byte.is_ascii_alphanumeric() || byte == b'_' || byte == b'.'
 }
 
+/// So many digits of a radix up to 16 write a number below 2^64.
+const SHORT: usize = 16;
+
+/// The number that few digits of a radix write.
+#[inline(always)]
+#[tactic(auto, using(crate::proofs::Digits::short_more, crate::proofs::Digits::short_all, crate::proofs::Digits::no_digit))]
+fn short_value(digits: &[u8], radix: u32) -> Option<u64>
+    requires low { 2 ≤ radix }
+    requires high { radix ≤ 16 }
+    requires short { length digits.now ≤ 16 }
+    ensures { MatchOption result (¬ (IsNumeral radix digits.now)) (λ value. Writes radix digits.now (Small value)) }
+{
+    if digits.is_empty() {
+        return None;
+    }
+    let mut value = 0;
+    for byte in digits {
+        let Some(digit) = char::from(*byte).to_digit(radix) else {
+            return None;
+        };
+        value = value * u64::from(radix) + u64::from(digit);
+    }
+    Some(value)
+}
+
 /// The number that digits of a radix write, which is None within from 2^64 on; None of other bytes.
+#[inline(always)]
 #[tactic(auto, using(crate::proofs::Digits::small_is, crate::proofs::Digits::large_is, crate::proofs::Digits::none_is))]
 fn value(digits: &[u8], radix: u32) -> Option<Option<u64>>
     requires low { 2 ≤ radix }
     requires high { radix ≤ 16 }
     ensures { result ≡ value_of radix digits.now }
 {
+    if digits.len() <= SHORT {
+        return Some(Some(short_value(digits, radix)?));
+    }
     match number_in(digits, radix)? {
         Number::Small(value) => Some(Some(value)),
         Number::Large => Some(None),
@@ -29,6 +61,7 @@ fn value(digits: &[u8], radix: u32) -> Option<Option<u64>>
 }
 
 /// The number that a piece writes which begins with a zero: nothing follows it, or `x` and hexadecimal digits do.
+#[inline(always)]
 #[tactic(auto, using(crate::proofs::Digits::zero_alone, crate::proofs::Digits::zero_then_digits, crate::proofs::Digits::zero_then_other))]
 fn value_behind_zero(rest: &[u8]) -> Option<Option<u64>>
     ensures { option_map (λ v. number v (48 ∷ rest.now)) result ≡ number_of (48 ∷ rest.now) }
@@ -41,6 +74,7 @@ fn value_behind_zero(rest: &[u8]) -> Option<Option<u64>>
 }
 
 /// The number that a piece writes, if it is one.
+#[inline(always)]
 #[tactic(auto, using(crate::proofs::Digits::nothing_written, crate::proofs::Digits::zero_first, crate::proofs::Digits::digit_first))]
 fn written(text: &[u8]) -> Option<Option<u64>>
     ensures { option_map (λ v. number v text.now) result ≡ number_of text.now }
@@ -53,6 +87,7 @@ fn written(text: &[u8]) -> Option<Option<u64>>
 }
 
 /// A number, where the piece writes one.
+#[inline(always)]
 fn number(text: &[u8]) -> Option<Kind<'_>>
     ensures { option_map lexeme_of result ≡ number_of text.now }
 {

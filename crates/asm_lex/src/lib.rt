@@ -12,9 +12,9 @@ mod scan;
 
 ghost use Rattle.asm_lex.specs.Kinds.{are_tokens, kind_of, lexeme_of};
 ghost use Rattle.asm_lex.specs.Pieces.{pieces};
-ghost use Rattle.asm_lex.specs.Tokens.{AreTokensOf, IsFaultOf};
+ghost use Rattle.asm_lex.specs.Tokens.{AreTokensOf, IsFaultOf, IsNextKind};
 ghost use Rattle.asm_lex.specs.declared.LexFault.TheVariants.{BadToken, Memory};
-ghost use Rattle.std.specs.Prelude.{◌≡◌, Some, false, true, map, IfErr, IfOk, OnOk};
+ghost use Rattle.std.specs.Prelude.{◌≡◌, ◌≤◌, [], Some, false, true, drop, length, map, option_map, IfErr, IfOk, MatchOption, OnOk};
 
 pub use asm_names::{
     ALL_ACCESSES, AtomicForm, ExchangedBranchOp, Mnemonic, NumberWidth, Section, UnaryOp,
@@ -163,4 +163,17 @@ pub fn token_kinds<'a>(alloc: Global, source: &'a [u8]) -> Result<Vec<Kind<'a>>,
         Err(LexFault::Memory) if !are_tokens(source) => Err(LexFault::BadToken),
         _ => found,
     }
+}
+
+/// The next token of a line after a place, and where it ends: None within where the next piece is no token, and None where no
+/// piece follows.
+#[inline(always)]
+#[tactic(auto, using(crate::proofs::Judging::kind_found))]
+pub fn next_kind(line: &[u8], from: usize) -> Option<(Option<Kind<'_>>, usize)>
+    requires { from ≤ length line.now }
+    ensures { MatchOption result (pieces (drop from line.now) ≡ [])
+        (λ (kind, end). IsNextKind line.now from (option_map lexeme_of kind) end) }
+{
+    let (start, end) = next_piece(line, from)?;
+    Some((kind_of(&line[start..end]), end))
 }

@@ -32,13 +32,15 @@ fn word_len(bytes: &[u8]) -> usize
 }
 
 /// How long the piece is that the bytes begin with; None at a comment and at the end.
-#[tactic(auto, using(crate::proofs::Cuts::nothing_found, crate::proofs::Cuts::comment_found, crate::proofs::Cuts::run_found, crate::proofs::Cuts::mark_found))]
+#[tactic(auto, using(crate::proofs::Cuts::nothing_found, crate::proofs::Cuts::comment_found, crate::proofs::Cuts::comma_found, crate::proofs::Cuts::run_found, crate::proofs::Cuts::mark_found))]
 fn piece_len(bytes: &[u8]) -> Option<usize>
     requires { begins_blank bytes.now ≡ false }
     ensures { MatchOption result (pieces bytes.now ≡ []) (BeginsWithPiece bytes.now) }
 {
     match bytes {
         [] | [b'#', ..] => None,
+        // The usual mark.
+        [b',', ..] => Some(1),
         [first, ..] if is_word(*first) => Some(word_len(bytes)),
         _ => Some(1),
     }

@@ -9,6 +9,7 @@ pub mod OneObject
 pub mod Standing
 pub mod Numbers
 pub mod NumberLists
+pub mod NumberLines
 pub mod LineWords
 pub mod WholeNumbers
 pub mod Tokens

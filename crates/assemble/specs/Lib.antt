@@ -15,6 +15,7 @@ pub mod AsmLineFaults
 pub mod Meanings
 pub mod Lexemes
 pub mod Numbers
+pub mod NumberLines
 pub mod Grammar
 pub mod Lines
 pub mod Steps

@@ -18,6 +18,7 @@ mod directives;
 mod fault;
 mod instructions;
 mod line;
+mod number_line;
 mod operands;
 mod parts;
 mod pseudo;
@@ -28,6 +29,7 @@ use asm_lex::token_kinds;
 pub use asm_lex::{NumberWidth, Section};
 pub use fault::AsmCode;
 pub use line::{Line, Statement};
+use number_line::number_line;
 pub use pseudo::halves;
 use statement::line_at;
 use std::alloc::Global;
@@ -37,8 +39,21 @@ use std::alloc::Global;
 /// A line is refused with the lowest code, A1 to A5, of its label and its statement together.
 /// `AsmCode::Memory` is answered only where a growth was refused, of a line without a bad token;
 /// it says nothing else of the line.
-#[tactic(auto, using(crate::proofs::LineWords::line_bad, crate::proofs::LineWords::memory_after_tokens))]
 pub fn read_line<'a>(alloc: Global, line: &'a [u8]) -> Result<Line<'a>, AsmCode>
+    ensures ok { IfOk result (λ read. line_of line.now ≡ Ok (line_meaning read)) }
+    ensures err { IfErr result (λ code. Fails code (line_of line.now)) }
+    ensures memory { IsErrOf result AsmCode.Memory → are_tokens (pieces line.now) ≡ true }
+    ensures in_range { IfOk result (λ read. IsInRange (meaning_of read.statement)) }
+{
+    match number_line(alloc, line) {
+        Some(read) => Ok(read),
+        None => read_tokens(alloc, line),
+    }
+}
+
+/// The same of any line, by its tokens.
+#[tactic(auto, using(crate::proofs::LineWords::line_bad, crate::proofs::LineWords::memory_after_tokens))]
+fn read_tokens<'a>(alloc: Global, line: &'a [u8]) -> Result<Line<'a>, AsmCode>
     ensures ok { IfOk result (λ read. line_of line.now ≡ Ok (line_meaning read)) }
     ensures err { IfErr result (λ code. Fails code (line_of line.now)) }
     ensures memory { IsErrOf result AsmCode.Memory → are_tokens (pieces line.now) ≡ true }

@@ -160,7 +160,13 @@ fn append_number(bytes: &mut Vec<u8>, width: NumberWidth, value: u64) -> Result<
     ensures err { IfErr result (λ code. code ≡ AsmCode.Memory) }
 {
     let number = value.to_le_bytes();
-    bytes.extend_from_slice(&number[..width.bytes() as usize])?;
+    // A length that is known is copied with no call.
+    match width {
+        NumberWidth::Byte => bytes.extend_from_slice(&number[..1])?,
+        NumberWidth::Half => bytes.extend_from_slice(&number[..2])?,
+        NumberWidth::Word => bytes.extend_from_slice(&number[..4])?,
+        NumberWidth::Doubleword => bytes.extend_from_slice(&number)?,
+    }
     Ok(())
 }
 

@@ -176,7 +176,7 @@ fn explained_cut(
 {
     let reader = ChainReader { routine, later };
     let whole = explain_losses(alloc, run, link.moment, &link.image, &reader)?;
-    let traced = Vec::from_slice(alloc, run.traced())?;
+    let traced = run.traced(alloc)?;
     Ok(ExplainedCut {
         traced,
         explained: told_of(alloc, whole, later.is_empty()),

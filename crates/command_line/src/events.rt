@@ -18,7 +18,6 @@ use crash_test::places_of;
 use line_memory::Medium;
 use report::ToldEvents;
 use std::alloc::{AllocError, Global};
-use std::borrow::CowSlice;
 use store_trace::Trace;
 use trace_file::{RankedTrace, TraceFile};
 
@@ -108,7 +107,7 @@ fn told_of(alloc: Global, made: &MadeRun) -> Result<ToldEvents<'_>, AllocError>
     ensures size { IfOk result (λ told. length (events_in told) ≡ length made.now.run.events) }
 {
     Ok(ToldEvents {
-        traced: CowSlice::Borrowed(made.run.traced()),
+        traced: made.run.traced(alloc)?,
         places: places_of(alloc, &made.file)?,
         lines: None,
     })

@@ -125,7 +125,8 @@ pub(crate) fn told_image(
     match why {
         Some(explained) => {
             let places = places_of(alloc, &made.file)?;
-            image_losses(alloc, made.run.traced(), explained, &places, json)
+            let traced = made.run.traced(alloc)?;
+            image_losses(alloc, &traced, explained, &places, json)
         }
         None => Ok(String::new(alloc)),
     }

@@ -17,7 +17,7 @@ use crate::reading::read_file;
 use crate::whole::{demand_ended, demand_whole};
 use arguments::{EventSource, ScheduledRun, TraceCommand, TracedEvents};
 use crash_test::places_of;
-use machine::TracedEvent;
+use machine::{Run, TracedEvent};
 use report::{Places, trace_json, trace_text};
 use std::alloc::{AllocError, Global};
 
@@ -46,7 +46,7 @@ fn trace_run<F: Files>(
 {
     let made = open_run(alloc, run, files)?;
     demand_whole(alloc, run.whole, &made, &[])?;
-    trace_answer(alloc, &made.file, made.run.traced(), json)
+    trace_answer(alloc, &made.file, &made.run, json)
 }
 
 /// The events of a trace file, read and printed as they stand there.
@@ -63,17 +63,13 @@ fn trace_back<F: Files>(
     Ok(Answer { text, status: 0 })
 }
 
-fn trace_answer(
-    alloc: Global,
-    file: &[u8],
-    traced: &[TracedEvent],
-    json: bool,
-) -> Result<Answer, Failure>
+fn trace_answer(alloc: Global, file: &[u8], run: &Run, json: bool) -> Result<Answer, Failure>
     requires { (program : Sections) × IsProgramOf file.now program }
-    ensures { Prints (told_events json (origin_of file.now) traced.now) 0 result }
+    ensures { Prints (told_events json (origin_of file.now) run.now.traced) 0 result }
 {
+    let traced = run.traced(alloc)?;
     let places = places_of(alloc, file)?;
-    let text = told_events(alloc, traced, &places, json)?;
+    let text = told_events(alloc, &traced, &places, json)?;
     Ok(Answer::of(text, 0))
 }
 

@@ -1,4 +1,4 @@
--- The lines of an index in pages of 64, of which one is made when one of its lines is first stored to.
+-- The lines of an index in pages of 64, of which one is made when one of its lines is first stored to or cleaned.
 use Rattle.std.specs.Prelude.{◌≡◌, ◌⊎◌, ℕ, List, [], ◌∷◌, length, replicate, slice_index_or, slice_set}
 use Rattle.std.specs.List.{flat_map}
 use Rattle.crash_image.specs.Lines.{LineView, unstored, raised_to, with_store}

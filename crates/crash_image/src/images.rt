@@ -94,7 +94,7 @@ fn apply_if_due(medium: &mut Medium, left: &mut [u32], event: Event)
     let count = &mut left[line as usize];
     if *count > 0 {
         *count -= 1;
-        store(medium, line, offset, width, value);
+        store(medium, line, u32::from(offset), u32::from(width), value);
     }
 }
 

@@ -46,7 +46,7 @@ fn apply_next(bytes: &mut [u8; 64], left: &mut u32, line: u32, event: Event)
     };
     if written == line {
         *left -= 1;
-        store_in_line(bytes, offset, width, value);
+        store_in_line(bytes, u32::from(offset), u32::from(width), value);
     }
 }
 

@@ -167,7 +167,7 @@ fn apply_and_compare(shown: &mut Medium, wanted: &Medium, all: &mut [Sought], ev
     else {
         return;
     };
-    store(shown, line, offset, width, value);
+    store(shown, line, u32::from(offset), u32::from(width), value);
     let sought = &mut all[line as usize];
     sought.stores += 1;
     sought.note_match(same_line(shown, wanted, line));

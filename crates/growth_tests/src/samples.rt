@@ -89,7 +89,7 @@ pub(crate) fn bus_of(
 /// An event of hart 0. A store writes eight bytes at an offset of a line.
 #[derive(Clone, Copy)]
 enum Made {
-    Store(u32, u32, u64),
+    Store(u32, u8, u64),
     Clean(u32),
     Fence,
     Begin(u64),

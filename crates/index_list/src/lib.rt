@@ -4,7 +4,7 @@
 ghost use Rattle.std.specs.Prelude.{◌≡◌, ℕ, ◌≤◌, ◌<◌, ◌+◌, ◌++◌, List, [], ◌∷◌, true, false, length, replicate, IfOk, IfSome};
 ghost use Rattle.index_list.specs.Lists.{has, without, first, last, after, list_of, with_list, IsSound};
 
-use ring::Ring;
+use ring::{Ring, own_numbers};
 use std::alloc::{AllocError, Global};
 use std::marker::Model;
 
@@ -36,9 +36,10 @@ impl<const K: usize> Arena<K> {
         ensures made { IfOk result (λ a. a ≡ record { nodes = n; lists = replicate K [] }) }
         ensures sound { IfOk result (λ a. IsSound K a) }
     {
+        let own = own_numbers(alloc, n)?;
         let mut rings = Vec::with_capacity(alloc, K)?;
         for _ in 0..K {
-            rings.push(Ring::new(alloc, n)?)?;
+            rings.push(Ring::new(alloc, n, &own)?)?;
         }
         Ok(Arena { nodes: n, rings })
     }

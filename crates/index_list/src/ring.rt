@@ -26,12 +26,14 @@ impl Model for Ring {
 }
 
 impl Ring {
-    /// An empty list over `n` nodes.
-    pub fn new(alloc: Global, n: u32) -> Result<Ring, AllocError>
+    /// An empty list over `n` nodes, whose links are the numbers from 0 to `n`.
+    pub fn new(alloc: Global, n: u32, own: &[u32]) -> Result<Ring, AllocError>
+        requires len { length own.now ≡ n + 1 }
+        requires own { (j : ℕ) → j < n + 1 → slice_index own.now j ≡ j }
         ensures { IfOk result (λ r. r ≡ record { nodes = n; items = [] }) }
     {
-        let next = own_numbers(alloc, n)?;
-        let prev = own_numbers(alloc, n)?;
+        let next = Vec::from_slice(alloc, own)?;
+        let prev = Vec::from_slice(alloc, own)?;
         Ok(Ring { end: n, next, prev })
     }
 
@@ -118,7 +120,7 @@ fn node_before_end(link: u32, end: u32) -> Option<u32>
 }
 
 /// The numbers from 0 to `n`, both included: the links of an empty ring.
-fn own_numbers(alloc: Global, n: u32) -> Result<Vec<u32>, AllocError>
+pub fn own_numbers(alloc: Global, n: u32) -> Result<Vec<u32>, AllocError>
     ensures len { IfOk result (λ v. length v.items ≡ n + 1) }
     ensures own { IfOk result (λ v. (j : ℕ) → j < n + 1 → slice_index v.items j ≡ j) }
 {

@@ -1,4 +1,5 @@
 pub mod Accesses
+pub mod Chunks
 pub mod Flat
 pub mod Flattened
 pub mod Loops

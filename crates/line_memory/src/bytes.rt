@@ -1,10 +1,13 @@
-//! Numbers in bytes, the least significant byte first.
+//! Bytes: numbers in them, the least significant byte first, and zeros behind them.
 
-ghost use Rattle.std.specs.Prelude.{◌≡◌, ◌≢◌, ◌+◌, ◌%◌, ◌≤◌, MatchBool, length};
+ghost use Rattle.std.specs.Prelude.{◌≡◌, ◌≢◌, ◌+◌, ◌%◌, ◌≤◌, IfErr, IfOk, MatchBool, length};
 ghost use Rattle.line_memory.specs.Memory.{IsWidth};
+ghost use Rattle.line_memory.specs.Regions.{padded};
 ghost use Rattle.word_bits.specs.Bytes.{loaded, stored};
 
+use crate::MediumFault;
 use byteorder::{ByteOrder, LittleEndian};
+use std::alloc::Global;
 use word_bits::replace_bytes;
 
 /// The number of the `width` bytes from place `at` on. A load of whole width copies no bytes first.
@@ -56,4 +59,21 @@ pub fn is_aligned(at: u64, width: u32) -> bool
         4 => at % 4 == 0,
         _ => at % 8 == 0,
     }
+}
+
+/// These bytes, and zeros up to a size.
+///
+/// # Errors
+/// Memory.
+#[tactic(auto, using(crate::proofs::Loops::padded_is))]
+pub fn padded_bytes(alloc: Global, bytes: &[u8], size: usize) -> Result<Vec<u8>, MediumFault>
+    requires { length bytes.now ≤ size }
+    ensures ok { IfOk result (λ made. made.items ≡ padded bytes.now size) }
+    ensures whole { IfOk result (λ made. length made.items ≡ size) }
+    ensures err { IfErr result (λ fault. fault ≡ MediumFault.Memory) }
+{
+    let mut made = Vec::with_capacity(alloc, size)?;
+    made.extend_from_slice(bytes)?;
+    made.resize(size, 0)?;
+    Ok(made)
 }

@@ -5,7 +5,7 @@
 
 ghost use Rattle.std.specs.Prelude.{◌≡◌};
 
-pub use bytes::{is_aligned, load_bytes, store_bytes};
+pub use bytes::{is_aligned, load_bytes, padded_bytes, store_bytes};
 pub use medium::Medium;
 pub use ram::{Ram, RamPlace};
 use std::alloc::AllocError;

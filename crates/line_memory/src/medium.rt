@@ -42,7 +42,7 @@ impl Medium {
     }
 
     /// The medium of these bytes, line by line. Size where they aren't 512 to 16,384 whole lines.
-    #[tactic(auto, using(crate::proofs::Loops::more_lines, crate::proofs::Loops::no_lines, crate::proofs::Loops::joined_more, crate::proofs::Loops::from_medium))]
+    #[tactic(auto, using(crate::proofs::Chunks::chunks_all, crate::proofs::Chunks::chunks_medium))]
     pub fn from_bytes(alloc: Global, bytes: &[u8]) -> Result<Medium, MediumFault>
         ensures ok { IfOk result (λ m. concat m ≡ bytes.now) }
         ensures whole { IfOk result (λ m. IsMedium m) }
@@ -56,24 +56,17 @@ impl Medium {
         {
             return Err(MediumFault::Size);
         }
-        let mut lines = Vec::with_capacity(alloc, count)?;
-        for i in 0..count {
-            let at = LINE_SIZE * i;
-            push_line(&mut lines, line_of(&bytes[at..at + LINE_SIZE]))?;
-        }
+        let (lines, _) = bytes.as_chunks::<LINE_SIZE>();
+        let lines = Vec::from_slice(alloc, lines)?;
         Ok(Medium { lines })
     }
 
     /// All the bytes, in order.
-    #[tactic(auto, using(crate::proofs::Loops::concat_more))]
     pub fn to_bytes(&self, alloc: Global) -> Result<Vec<u8>, MediumFault>
         ensures ok { IfOk result (λ bytes. bytes.items ≡ concat self.now) }
         ensures err { IfErr result (λ fault. fault ≡ MediumFault.Memory) }
     {
-        let mut bytes = Vec::with_capacity(alloc, LINE_SIZE * self.lines.len())?;
-        for line in &self.lines {
-            bytes.extend_from_slice(line)?;
-        }
+        let bytes = Vec::from_slice(alloc, self.lines.as_flattened())?;
         Ok(bytes)
     }
 
@@ -170,20 +163,3 @@ impl Medium {
 fn are_bytes(bytes: &[u8])
     ensures { (place : ℕ) → slice_index bytes.now place < 256 }
 {}
-
-fn push_line(lines: &mut Vec<[u8; LINE_SIZE]>, line: [u8; LINE_SIZE]) -> Result<(), AllocError>
-    ensures { IfOk result (λ _. lines.new.items ≡ lines.old.items ++ line ∷ []) }
-{
-    lines.push(line)?;
-    Ok(())
-}
-
-fn line_of(bytes: &[u8]) -> [u8; LINE_SIZE]
-    requires { length bytes.now ≡ 64 }
-    ensures value { result ≡ bytes.now }
-    ensures whole { length result ≡ 64 }
-{
-    let mut line = [0; LINE_SIZE];
-    line.copy_from_slice(bytes);
-    line
-}

@@ -5,11 +5,10 @@ ghost use Rattle.line_memory.specs.Memory.{IsWidth, loaded_from, stored_to, faul
 ghost use Rattle.line_memory.specs.Regions.{RamView, IsRam, padded, ram_bytes};
 ghost use Rattle.line_memory.specs.Places.{IsPlace, IsRefused, IsWithin, address_of};
 
-use crate::bytes::{is_aligned, load_bytes, store_bytes};
+use crate::bytes::{is_aligned, load_bytes, padded_bytes, store_bytes};
 use crate::{DATA_BASE, DATA_SIZE, MediumFault, MemFault, TEXT_BASE, TEXT_SIZE};
 use std::alloc::Global;
 use std::marker::Model;
-use word_bits::replace_bytes;
 
 /// The text and data regions. Addresses are those of the whole address space.
 #[derive(Drop)]
@@ -47,8 +46,8 @@ impl Ram {
         ensures sound { IfOk result (λ ram. IsRam ram) }
         ensures err { IfErr result (λ fault. fault ≡ MediumFault.Memory) }
     {
-        let text = region(alloc, text, TEXT_SIZE as usize)?;
-        let bytes = region(alloc, data, DATA_SIZE as usize)?;
+        let text = padded_bytes(alloc, text, TEXT_SIZE as usize)?;
+        let bytes = padded_bytes(alloc, data, DATA_SIZE as usize)?;
         Ok(Ram { text, bytes })
     }
 
@@ -146,16 +145,4 @@ impl Ram {
     {
         self.text.as_slice()
     }
-}
-
-/// Zeros, with the bytes given at their front.
-fn region(alloc: Global, bytes: &[u8], size: usize) -> Result<Vec<u8>, MediumFault>
-    requires { length bytes.now ≤ size }
-    ensures ok { IfOk result (λ made. made.items ≡ padded bytes.now size) }
-    ensures whole { IfOk result (λ made. length made.items ≡ size) }
-    ensures err { IfErr result (λ fault. fault ≡ MediumFault.Memory) }
-{
-    let mut made = vec![in alloc; 0u8; size]?;
-    replace_bytes(&mut made, 0, bytes);
-    Ok(made)
 }

@@ -470,11 +470,15 @@ fn store_in_copy(copy: &mut Option<[u8; LINE_SIZE]>, at: usize, width: usize, va
 fn no_copies(alloc: Global, lines: u32) -> Result<Vec<Option<[u8; LINE_SIZE]>>, AllocError>
     ensures { IfOk result (λ copies. copies.items ≡ replicate lines None) }
 {
-    vec![in alloc; None; lines as usize]
+    let mut copies = Vec::new(alloc);
+    copies.resize(lines as usize, None)?;
+    Ok(copies)
 }
 
 fn no_flags(alloc: Global, lines: u32) -> Result<Vec<bool>, AllocError>
     ensures { IfOk result (λ flags. flags.items ≡ replicate lines false) }
 {
-    vec![in alloc; false; lines as usize]
+    let mut flags = Vec::new(alloc);
+    flags.resize(lines as usize, false)?;
+    Ok(flags)
 }

@@ -10,7 +10,8 @@ use Rattle.machine.specs.Steps.{all_steps}
 use Rattle.store_trace.specs.declared.event.Event.{Event}
 use Rattle.machine.specs.Recorded.{AreNumbers, FailsToRecord, IsAmong, IsAtStep, IsMadeBy, MayLackRoom, RecordedView, Records, StopsRecording}
 use Rattle.machine.proofs.RecordingLeaving.{left_at}
-use Rattle.machine.specs.Traced.{StopsTracing, TakesMemory, TracedRun, TracedStep, Traces, events_in, passed}
+use Rattle.machine.specs.Traced.{StopsTracing, TakesMemory, TracedRun, TracedStep, Traces, events_in, passed, place_of, places_in}
+use Rattle.machine.specs.declared.run_trace.traced_event.EventPlace.{EventPlace}
 use Rattle.machine.specs.declared.run_trace.traced_event.TracedEvent.{TracedEvent}
 use Rattle.machine.proofs.Traces.{has_events, is_run}
 use Rattle.machine.specs.Replies.{trace_in}
@@ -118,32 +119,41 @@ pub all_among : (m : MachineView) (harts lines : ℕ) (steps : List Step) → ha
     → All (IsThere m) steps → All (IsAmong harts lines) steps
 all_among m harts lines steps e f there k d inside = among m harts lines _ e f (there k d inside)
 
-pub records_all : (c : Config) (old new : MachineView) (traced : List TracedEvent) (recorded : RecordedView) → Represents old c
-    → trace_in c.common ≡ [] → Traces old new (all_steps recorded.items) traced → old.shared.cache.lines ≡ recorded.start
+-- the numbers of places
+pub steps_of_places : (traced : List TracedEvent) → map (λ (p : EventPlace). p.step) (places_in traced) ≡ map (λ (t : TracedEvent). t.step) traced
+steps_of_places [] = refl
+steps_of_places (t ∷ traced) = ap (λ (l : List ℕ). t.step ∷ l) (steps_of_places traced)
+
+pub records_all : (c : Config) (old new : MachineView) (places : List EventPlace) (recorded : RecordedView) → Represents old c
+    → trace_in c.common ≡ [] → Traces old new (all_steps recorded.items) places → old.shared.cache.lines ≡ recorded.start
     → old.shared.cache.cache.capacity ≡ recorded.capacity → recorded.trace ≡ new.shared.trace → recorded.harts ≡ new.harts
-    → recorded.left ≡ new.shared.cache.lines → recorded.steps ≡ map (λ (t : TracedEvent). t.step) traced → Records c recorded
-records_all c old new traced recorded stands none traces lines capacity trace harts left numbers =
-    let told = traces.traces c stands in record {
+    → recorded.left ≡ new.shared.cache.lines → recorded.steps ≡ map (λ (p : EventPlace). p.step) places → Records c recorded
+records_all c old new places recorded stands none traces lines capacity trace harts left numbers =
+    let told = traces.traces c stands in
+    let steps : recorded.steps ≡ map (λ (t : TracedEvent). t.step) told.1 =
+    numbers ∙ ap (λ (l : List EventPlace). map (λ (p : EventPlace). p.step) l) told.3 ∙ steps_of_places told.1 in
+    record {
       end = told.0;
       there = all_among old (length recorded.harts) (length recorded.start) (all_steps recorded.items)
           (ap (λ (l : List HartState). length l) harts ∙ traces.runs.harts) (ap (λ (l : List (List ℕ)). length l) (sym lines))
           traces.runs.there;
-      runs = is_run 0 c told.0 (all_steps recorded.items) traced told.1;
-      harts = harts ∙ told.2.harts;
-      trace = trace ∙ told.2.shared.trace;
-      numbers = rw numbers (traced_numbers c c told.0 [] (all_steps recorded.items) [] traced refl
-          (sym (ap (λ (l : List Event). length l) none)) (λ i n got. absurd (cc)) told.1);
-      left = left_at told.0 new recorded.capacity recorded.left told.2 (traces.runs.capacity ∙ capacity) left;
+      runs = is_run 0 c told.0 (all_steps recorded.items) told.1 told.2;
+      harts = harts ∙ told.4.harts;
+      trace = trace ∙ told.4.shared.trace;
+      numbers = rw steps (traced_numbers c c told.0 [] (all_steps recorded.items) [] told.1 refl
+          (sym (ap (λ (l : List Event). length l) none)) (λ i n got. absurd (cc)) told.2);
+      left = left_at told.0 new recorded.capacity recorded.left told.4 (traces.runs.capacity ∙ capacity) left;
     }
 
 -- each event has its number
-pub each_event : (c : Config) (old new : MachineView) (steps : List Step) (traced : List TracedEvent) → Represents old c
-    → trace_in c.common ≡ [] → Traces old new steps traced → length traced ≡ length new.shared.trace
-each_event c old new steps traced stands none traces =
+pub each_event : (c : Config) (old new : MachineView) (steps : List Step) (places : List EventPlace) → Represents old c
+    → trace_in c.common ≡ [] → Traces old new steps places → length places ≡ length new.shared.trace
+each_event c old new steps places stands none traces =
     let told = traces.traces c stands in
-    let events : trace_in told.0.common ≡ events_in traced =
-    has_events 0 c told.0 steps traced told.1 ∙ ap (λ (l : List Event). l ++ events_in traced) none in
-    sym (length-map traced (λ (t : TracedEvent). t.event)) ∙ ap (λ (l : List Event). length l) (sym (told.2.shared.trace ∙ events))
+    let events : trace_in told.0.common ≡ events_in told.1 =
+    has_events 0 c told.0 steps told.1 told.2 ∙ ap (λ (l : List Event). l ++ events_in told.1) none in
+    ap (λ (l : List EventPlace). length l) told.3 ∙ length-map told.1 place_of
+    ∙ sym (length-map told.1 (λ (t : TracedEvent). t.event)) ∙ ap (λ (l : List Event). length l) (sym (told.4.shared.trace ∙ events))
 
 -- why memory may have been refused for the next step
 takes_memory : (c : Config) (machine : MachineView) (next : Option Step) → Represents machine c → TakesMemory machine next → MayLackRoom c next

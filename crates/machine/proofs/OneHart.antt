@@ -1,7 +1,6 @@
 -- The steps of one hart, one after another.
-use Rattle.std.proofs.Common.{◌≡◌, ℕ, zero, suc, ◌+◌, ◌-◌, ◌%◌, ◌<◌, ◌≤◌, ◌^◌, List, [], ◌∷◌, ◌++◌, length, replicate, drop, Option, Some, None, true, false, slice_get, slice_index_or, refl, sym, ap, subst, ◌∙◌, inl, inr, arith}
+use Rattle.std.proofs.Common.{◌≡◌, ◌≢◌, ℕ, zero, suc, ◌+◌, ◌-◌, ◌%◌, ◌<◌, ◌≤◌, ◌^◌, List, [], ◌∷◌, ◌++◌, length, replicate, drop, Option, Some, None, true, false, slice_get, refl, sym, ap, subst, ◌∙◌, inl, inr, arith}
 use Rattle.std.proofs.lemmas.Bool.{cases_lt}
-use Rattle.std.proofs.lemmas.Option.{slice_get-get_or}
 use Rattle.std.proofs.lemmas.List.{append-nil, length-append, replicate-append-replicate, replicate_more, take-append-drop, take-replicate}
 use Rattle.hart.specs.declared.state.HartState.{HartState}
 use Rattle.hart.specs.declared.state.Status.{Status}
@@ -17,7 +16,7 @@ use Rattle.machine.specs.Traced.{steps_alone}
 use Rattle.machine.specs.TracerLaws.{makes_more, passed_is}
 use Rattle.machine.proofs.Tracing.{continues_event, tells_none}
 use Rattle.machine.specs.RunLaws.{both_more}
-use Rattle.machine.specs.declared.run_trace.traced_event.TracedEvent.{TracedEvent}
+use Rattle.machine.specs.declared.run_trace.traced_event.EventPlace.{EventPlace}
 use Rattle.machine.specs.Tracers.{Continues, IsHeld, Makes, TracerView, passed_all}
 use Rattle.std.proofs.Math.Nat.{mod-eq_of_lt}
 use Rattle.machine.proofs.Places.{step_here}
@@ -139,9 +138,9 @@ both_further old middle new h made more a b =
 
 -- steps that make no event
 pub makes_quietly : (old new : TracerView) (h n : ℕ) → RunsBoth old.machine new.machine (replicate n (Hart h))
-    → new.machine.shared.trace ≡ old.machine.shared.trace → new.made ≡ (old.made + n) % 2 ^ 32 → new.traced ≡ old.traced
+    → new.machine.shared.trace ≡ old.machine.shared.trace → new.made ≡ (old.made + n) % 2 ^ 32 → new.places ≡ old.places
     → Makes old (replicate n (Hart h)) new
-makes_quietly old new h n runs same made traced few =
+makes_quietly old new h n runs same made places few =
     let count : old.made + n < 2 ^ 32 = rw (passed_is, all_counted) at few in
     let all : passed_all old.made (replicate n (Hart h)) ≡ old.made + n = rw (passed_is, all_counted) refl in
     let trace = ap (λ (events : List Event). length events) same in
@@ -149,32 +148,25 @@ makes_quietly old new h n runs same made traced few =
       runs = runs.runs;
       exact = runs.exact;
       made = made ∙ mod-eq_of_lt count ∙ sym all;
-      tells = tells_none old new (replicate n (Hart h)) runs.runs (omega arith) traced;
+      tells = tells_none old new (replicate n (Hart h)) runs.runs (omega arith) places;
     }
 
--- a row of steps whose event is told
-pub last_there : (trace before : List Event) (i : ℕ) (event other : Event) → trace ≡ before ++ event ∷ [] → i + 1 ≡ length trace
-    → slice_get trace (length before) ≡ Some (slice_index_or trace i other)
-last_there trace before i event other longer last =
-    let all = ap (λ (events : List Event). length events) longer ∙ length-append before (event ∷ []) in
-    let here : i ≡ length before = omega arith in
-    rw here (slice_get-get_or trace (length before) other (omega arith))
-
-pub makes_row : {t : TracedEvent} (old new : TracerView) (h n pc : ℕ) → new.traced ≡ old.traced ++ t ∷ [] → EndsByEventOf old.machine h n pc new.machine
-    → t.pc ≡ pc → t.step ≡ (old.made + n) % 2 ^ 32 → new.made ≡ (old.made + n) % 2 ^ 32
-    → slice_get new.machine.shared.trace (length old.machine.shared.trace) ≡ Some t.event → Makes old (replicate n (Hart h)) new
-makes_row {t} old new h n pc traced row told number made got few =
+-- a row of steps whose last one makes an event
+pub makes_row : {p : EventPlace} (old new : TracerView) (h n pc : ℕ) → new.places ≡ old.places ++ p ∷ [] → EndsByEventOf old.machine h n pc new.machine
+    → p.pc ≡ pc → p.step ≡ (old.made + n) % 2 ^ 32 → new.made ≡ (old.made + n) % 2 ^ 32 → Makes old (replicate n (Hart h)) new
+makes_row {p} old new h n pc places row told number made few =
     let all : old.made + n < 2 ^ 32 = rw (passed_is, all_counted) at few in
     let count = row.all in
-    let between : TracerView = record { machine = row.middle; made = (old.made + row.quiet) % 2 ^ 32; traced = old.traced } in
+    let between : TracerView = record { machine = row.middle; made = (old.made + row.quiet) % 2 ^ 32; places = old.places } in
     let before = makes_quietly old between h row.quiet row.before row.same refl refl in
     let small : old.made + row.quiet < 2 ^ 32 = omega arith in
     let so_far : between.made ≡ old.made + row.quiet = mod-eq_of_lt small in
-    let numbered : t.step ≡ between.made + 1 = number ∙ mod-eq_of_lt all ∙ omega arith in
+    let numbered : p.step ≡ between.made + 1 = number ∙ mod-eq_of_lt all ∙ omega arith in
     let counted : new.made ≡ between.made + 1 = made ∙ mod-eq_of_lt all ∙ omega arith in
-    let read : slice_get new.machine.shared.trace (length row.middle.shared.trace) ≡ Some t.event = rw row.same got in
+    let size = ap (λ (events : List Event). length events) row.longer.trace ∙ length-append row.middle.shared.trace (row.longer.event ∷ []) in
+    let longer : length new.machine.shared.trace ≢ length row.middle.shared.trace = λ same. omega arith in
     let last : Makes between (Hart h ∷ []) new =
-    λ fits. continues_event between new h row.state t row.last.runs row.last.exact row.there (told ∙ row.pc_is) numbered counted read traced in
+    λ fits. continues_event between new h row.state p row.last.runs row.last.exact row.there (told ∙ row.pc_is) numbered counted longer places in
     let whole : Makes old (replicate (row.quiet + 1) (Hart h)) new = makes_one_more old between new h row.quiet before last in
     let as_many : Makes old (replicate n (Hart h)) new = subst (λ (k : ℕ). Makes old (replicate k (Hart h)) new) (sym count) whole in
     as_many few

@@ -5,16 +5,16 @@ use Rattle.hart.specs.declared.state.HartState.{HartState}
 use Rattle.machine.specs.Represents.{IsRunning, MachineView}
 use Rattle.machine.specs.Stops.{is_stopped}
 use Rattle.machine.specs.Traced.{Traces, steps_alone}
-use Rattle.machine.specs.declared.run_trace.traced_event.TracedEvent.{TracedEvent}
+use Rattle.machine.specs.declared.run_trace.traced_event.EventPlace.{EventPlace}
 use Rattle.machine.specs.Steps.{all_steps}
 use Rattle.machine.specs.declared.schedule.items.Item.{Item}
 use Rattle.machine.specs.declared.schedule.items.Step.{Step}
 use Rattle.machine.specs.declared.schedule.items.Step.TheVariants.{Hart}
 
-pub traces_alone : (old new : MachineView) (items : List Item) (made : ℕ) (traced : List TracedEvent) → items ≡ steps_alone 0 made
-    → Traces old new (replicate made (Hart 0)) traced → Traces old new (all_steps items) traced
-traces_alone old new items made traced are traces =
-    subst (λ (steps : List Step). Traces old new steps traced)
+pub traces_alone : (old new : MachineView) (items : List Item) (made : ℕ) (places : List EventPlace) → items ≡ steps_alone 0 made
+    → Traces old new (replicate made (Hart 0)) places → Traces old new (all_steps items) places
+traces_alone old new items made places are traces =
+    subst (λ (steps : List Step). Traces old new steps places)
     (sym (ap (λ (l : List Item). all_steps l) are ∙ append-nil (replicate made (Hart 0)))) traces
 
 -- a hart that runs at the end has made all its steps

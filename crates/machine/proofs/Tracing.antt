@@ -1,9 +1,7 @@
 -- A tracer's steps, one after another.
-use Rattle.std.proofs.Common.{◌≡◌, ℕ, ◌+◌, ◌<◌, ◌≤◌, List, [], ◌∷◌, ◌++◌, length, replicate, Some, None, true, slice_get, refl, sym, ap, ◌∙◌, inl, inr, arith, subst, ◌^◌, Bor, append-nil}
+use Rattle.std.proofs.Common.{◌≡◌, ◌≢◌, ℕ, ◌+◌, ◌<◌, ◌≤◌, List, [], ◌∷◌, ◌++◌, length, replicate, Some, true, slice_get, refl, sym, ap, ◌∙◌, inl, inr, arith, subst, ◌^◌, append-nil}
 use Rattle.std.proofs.lemmas.List.{length-append}
 use Rattle.std.proofs.lemmas.List.Elements.{All-nil, All-cons}
-use Rattle.std.proofs.lemmas.Option.{slice_get_read, slice_get_within}
-use Rattle.std.specs.Slice.{IsItemAt}
 use Rattle.hart.specs.declared.state.HartState.{HartState}
 use Rattle.machine.specs.Replies.{trace_in}
 use Rattle.machine.specs.Run.{Config, RunsTo, StepsTo}
@@ -13,9 +11,10 @@ use Rattle.machine.specs.Evicting.{hart_steps}
 use Rattle.machine.proofs.RunParts.{grows, run_grows}
 use Rattle.machine.proofs.Counting.{all_counted, counted, items_counted}
 use Rattle.machine.proofs.Steps.{stopped_exactly, stopped_runs, stops_at}
-use Rattle.machine.specs.Traced.{IsPcBefore, StopsTracing, TracedRun, TracedStep, Traces, passed}
+use Rattle.machine.specs.Traced.{IsPcBefore, StopsTracing, TracedRun, TracedStep, Traces, passed, places_in}
 use Rattle.machine.specs.TracerLaws.{passed_is}
 use Rattle.machine.specs.Tracers.{Continues, IsHeld, Makes, Tells, TracerView}
+use Rattle.machine.specs.declared.run_trace.traced_event.EventPlace.{EventPlace}
 use Rattle.machine.specs.declared.run_trace.traced_event.TracedEvent.{TracedEvent}
 use Rattle.machine.specs.declared.schedule.items.Item.{Item}
 use Rattle.machine.specs.declared.schedule.items.Step.{Step}
@@ -57,9 +56,9 @@ silent_run n c d (step ∷ steps) run same =
     (run.0, [], [], refl, silent_step n c run.0 step run.1 (omega arith), silent_run (passed n step) run.0 d steps run.2 (omega arith))
 
 pub tells_none : (old new : TracerView) (steps : List Step) → Runs old.machine new.machine steps
-    → length new.machine.shared.trace ≤ length old.machine.shared.trace → new.traced ≡ old.traced
+    → length new.machine.shared.trace ≤ length old.machine.shared.trace → new.places ≡ old.places
     → (c : Config) → Represents old.machine c → Tells old new steps c
-tells_none old new steps runs same traced c stands =
+tells_none old new steps runs same places c stands =
     let after = runs.represents c stands in
     let before_is = ap (λ (t : List Event). length t) stands.shared.trace in
     let after_is = ap (λ (t : List Event). length t) after.2.shared.trace in
@@ -68,47 +67,32 @@ tells_none old new steps runs same traced c stands =
       more = [];
       run = silent_run old.made c after.0 steps after.1 (omega arith);
       represents = after.2;
-      traced = traced ∙ sym (append-nil old.traced);
+      places = places ∙ sym (append-nil old.places);
     }
-
--- what was read of a list
-pub item_there : (xs : List Event) (i : ℕ) (r : Bor Event) → IsItemAt xs i (Some r) → slice_get xs i ≡ Some r.now
-item_there xs i r h = slice_get_read xs (length xs) i r.now refl h.3.0 h.1
-
-pub past_item : (xs : List Event) (i : ℕ) → IsItemAt {X = Event} xs i None → length xs ≤ i
-past_item xs i h = h.3
 
 -- a hart step with an event
 one_step : (c d : Config) (step : Step) → RunsTo c (step ∷ []) d → StepsTo c step d
 one_step c d step run = rw run.2 run.1
 
-at_end : (xs more : List Event) (x : Event) → slice_get (xs ++ x ∷ more) (length xs) ≡ Some x
-at_end [] more x = refl
-at_end (y ∷ xs) more x = at_end xs more x
-
-one_more : (xs ys more : List Event) (x : Event) → ys ≡ xs ++ more → length more ≤ 1 → slice_get ys (length xs) ≡ Some x → more ≡ x ∷ []
-one_more xs ys [] x e few got =
-    let inside = slice_get_within ys (length xs) x got in
+one_more : (xs ys more : List Event) → ys ≡ xs ++ more → length more ≤ 1 → length ys ≢ length xs → (x : Event) × (more ≡ x ∷ [])
+one_more xs ys [] e few longer =
     let all = ap (λ (t : List Event). length t) e ∙ length-append xs [] in
-    absurd (omega arith)
-one_more xs ys (y ∷ []) x e few got =
-    let there : slice_get ys (length xs) ≡ Some y = ap (λ (t : List Event). slice_get t (length xs)) e ∙ at_end xs [] y in
-    let both : Some x ≡ Some y = sym got ∙ there in
-    let same : y ≡ x = cc in
-    ap (λ (z : Event). z ∷ []) same
-one_more xs ys (y ∷ z ∷ more) x e few got = absurd (omega arith)
+    absurd (longer (omega arith))
+one_more xs ys (x ∷ []) e few longer = (x, refl)
+one_more xs ys (x ∷ y ∷ more) e few longer = absurd (omega arith)
 
-tells_event : (old new : TracerView) (h : ℕ) (s : HartState) (t : TracedEvent) → Runs old.machine new.machine (Hart h ∷ [])
-    → slice_get old.machine.harts h ≡ Some s → t.pc ≡ s.pc → t.step ≡ old.made + 1
-    → slice_get new.machine.shared.trace (length old.machine.shared.trace) ≡ Some t.event → new.traced ≡ old.traced ++ t ∷ []
+tells_event : (old new : TracerView) (h : ℕ) (s : HartState) (p : EventPlace) → Runs old.machine new.machine (Hart h ∷ [])
+    → slice_get old.machine.harts h ≡ Some s → p.pc ≡ s.pc → p.step ≡ old.made + 1
+    → length new.machine.shared.trace ≢ length old.machine.shared.trace → new.places ≡ old.places ++ p ∷ []
     → (c : Config) → Represents old.machine c → Tells old new (Hart h ∷ []) c
-tells_event old new h s t runs there pc number got traced c stands =
+tells_event old new h s p runs there pc number longer places c stands =
     let after = runs.represents c stands in
     let moves = one_step c after.0 (Hart h) after.1 in
     let g = grows c after.0 (Hart h) moves in
-    let read : slice_get (trace_in after.0.common) (length (trace_in c.common)) ≡ Some t.event = rw (stands.shared.trace, after.2.shared.trace) at got in
-    let more : g.more ≡ t.event ∷ [] = one_more (trace_in c.common) (trace_in after.0.common) g.more t.event g.trace g.few read in
+    let other : length (trace_in after.0.common) ≢ length (trace_in c.common) = rw (stands.shared.trace, after.2.shared.trace) at longer in
+    let more = one_more (trace_in c.common) (trace_in after.0.common) g.more g.trace g.few other in
     let hart : slice_get c.harts h ≡ Some s = rw stands.harts at there in
+    let t : TracedEvent = record { step = p.step; pc = p.pc; event = more.0 } in
     record {
       end = after.0;
       more = t ∷ [];
@@ -119,56 +103,56 @@ tells_event old new h s t runs there pc number got traced c stands =
         refl,
         record {
           steps = moves;
-          events = g.trace ∙ ap (λ (m : List Event). trace_in c.common ++ m) more;
+          events = g.trace ∙ ap (λ (m : List Event). trace_in c.common ++ m) more.1;
           numbers = All-cons (λ (u : TracedEvent). u.step ≡ old.made + 1) t [] number (All-nil (λ (u : TracedEvent). u.step ≡ old.made + 1));
           pcs = All-cons (λ (u : TracedEvent). IsPcBefore c (Hart h) u.pc) t [] (s, hart, pc) (All-nil (λ (u : TracedEvent). IsPcBefore c (Hart h) u.pc));
         },
         (refl, refl),
       );
       represents = after.2;
-      traced = traced;
+      places = places;
     }
 
-pub continues_event : (old new : TracerView) (h : ℕ) (s : HartState) (t : TracedEvent) → Runs old.machine new.machine (Hart h ∷ [])
-    → RunsExactly old.machine new.machine (Hart h ∷ []) → slice_get old.machine.harts h ≡ Some s → t.pc ≡ s.pc → t.step ≡ old.made + 1 → new.made ≡ old.made + 1
-    → slice_get new.machine.shared.trace (length old.machine.shared.trace) ≡ Some t.event → new.traced ≡ old.traced ++ t ∷ []
+pub continues_event : (old new : TracerView) (h : ℕ) (s : HartState) (p : EventPlace) → Runs old.machine new.machine (Hart h ∷ [])
+    → RunsExactly old.machine new.machine (Hart h ∷ []) → slice_get old.machine.harts h ≡ Some s → p.pc ≡ s.pc → p.step ≡ old.made + 1 → new.made ≡ old.made + 1
+    → length new.machine.shared.trace ≢ length old.machine.shared.trace → new.places ≡ old.places ++ p ∷ []
     → Continues old new (Hart h ∷ [])
-continues_event old new h s t runs exact there pc number made got traced = record {
+continues_event old new h s p runs exact there pc number made longer places = record {
   runs = runs;
   exact = exact;
   made = made;
-  tells = tells_event old new h s t runs there pc number got traced;
+  tells = tells_event old new h s p runs there pc number longer places;
 }
 
 pub continues_silent : (old new : TracerView) (h : ℕ) → Runs old.machine new.machine (Hart h ∷ [])
-    → RunsExactly old.machine new.machine (Hart h ∷ []) → new.made ≡ old.made + 1 → length new.machine.shared.trace ≤ length old.machine.shared.trace → new.traced ≡ old.traced → Continues old new (Hart h ∷ [])
-continues_silent old new h runs exact made same traced = record {
+    → RunsExactly old.machine new.machine (Hart h ∷ []) → new.made ≡ old.made + 1 → length new.machine.shared.trace ≤ length old.machine.shared.trace → new.places ≡ old.places → Continues old new (Hart h ∷ [])
+continues_silent old new h runs exact made same places = record {
   runs = runs;
   exact = exact;
   made = made;
-  tells = tells_none old new (Hart h ∷ []) runs same traced;
+  tells = tells_none old new (Hart h ∷ []) runs same places;
 }
 
 -- the steps of a hart that stopped
 pub continues_stopped : (old new : TracerView) (h n : ℕ) → is_stopped (slice_get old.machine.harts h) ≡ true → new.machine ≡ old.machine
-    → new.made ≡ old.made + n → new.traced ≡ old.traced → Continues old new (replicate n (Hart h))
-continues_stopped old new h n stopped e made traced =
+    → new.made ≡ old.made + n → new.places ≡ old.places → Continues old new (replicate n (Hart h))
+continues_stopped old new h n stopped e made places =
     let runs : Runs old.machine new.machine (replicate n (Hart h)) = rw e (stopped_runs old.machine h n stopped) in
     let same : length new.machine.shared.trace ≡ length old.machine.shared.trace = ap (λ (m : MachineView). length m.shared.trace) e in
     record {
       runs = runs;
       exact = rw e (stopped_exactly old.machine h n stopped);
       made = rw (passed_is, all_counted) made;
-      tells = tells_none old new (replicate n (Hart h)) runs (omega arith) traced;
+      tells = tells_none old new (replicate n (Hart h)) runs (omega arith) places;
     }
 
 -- an eviction
 eviction_is_silent : (c d : Config) (line : ℕ) → StepsTo c (Evict line) d → length (trace_in d.common) ≡ length (trace_in c.common)
 eviction_is_silent c d line step = rw step refl
 
-tells_eviction : (old new : TracerView) (line : ℕ) → Runs old.machine new.machine (Evict line ∷ []) → new.traced ≡ old.traced
+tells_eviction : (old new : TracerView) (line : ℕ) → Runs old.machine new.machine (Evict line ∷ []) → new.places ≡ old.places
     → (c : Config) → Represents old.machine c → Tells old new (Evict line ∷ []) c
-tells_eviction old new line runs traced c stands =
+tells_eviction old new line runs places c stands =
     let after = runs.represents c stands in
     let same = eviction_is_silent c after.0 line (one_step c after.0 (Evict line) after.1) in
     record {
@@ -176,24 +160,24 @@ tells_eviction old new line runs traced c stands =
       more = [];
       run = silent_run old.made c after.0 (Evict line ∷ []) after.1 (omega arith);
       represents = after.2;
-      traced = traced ∙ sym (append-nil old.traced);
+      places = places ∙ sym (append-nil old.places);
     }
 
 pub continues_evicted : (old new : TracerView) (line : ℕ) → Runs old.machine new.machine (Evict line ∷ [])
-    → RunsExactly old.machine new.machine (Evict line ∷ []) → new.made ≡ old.made → new.traced ≡ old.traced → Continues old new (Evict line ∷ [])
-continues_evicted old new line runs exact made traced = record { runs = runs; exact = exact; made = made; tells = tells_eviction old new line runs traced }
+    → RunsExactly old.machine new.machine (Evict line ∷ []) → new.made ≡ old.made → new.places ≡ old.places → Continues old new (Evict line ∷ [])
+continues_evicted old new line runs exact made places = record { runs = runs; exact = exact; made = made; tells = tells_eviction old new line runs places }
 
 -- all that a tracer tells which has told nothing before
-pub traces_all : (old new : TracerView) (steps : List Step) → old.made ≡ 0 → old.traced ≡ [] → Continues old new steps
-    → length new.machine.shared.trace ≤ 65536 → Traces old.machine new.machine steps new.traced
+pub traces_all : (old new : TracerView) (steps : List Step) → old.made ≡ 0 → old.places ≡ [] → Continues old new steps
+    → length new.machine.shared.trace ≤ 65536 → Traces old.machine new.machine steps new.places
 traces_all old new steps made none continues few = record {
   runs = continues.runs;
   exact = continues.exact;
   few = few;
   traces = λ c stands.
       let told = continues.tells c stands in
-      let whole : told.more ≡ new.traced = sym (told.traced ∙ ap (λ (t : List TracedEvent). t ++ told.more) none) in
-      (told.end, rw (made, whole) at told.run, told.represents);
+      let whole : new.places ≡ places_in told.more = told.places ∙ ap (λ (t : List EventPlace). t ++ places_in told.more) none in
+      (told.end, told.more, rw made at told.run, whole, told.represents);
 }
 
 -- what a walk from the start makes of it

@@ -1,11 +1,12 @@
 -- A run with its events told one by one: which hart step made each, and the pc that its hart had before that step.
-use Rattle.std.specs.Prelude.{◌≡◌, ◌⊎◌, ℕ, ◌+◌, ◌<◌, ◌≤◌, List, [], ◌∷◌, ◌++◌, All, Option, Some, None, length, map, slice_get}
+use Rattle.std.specs.Prelude.{◌≡◌, ◌⊎◌, ℕ, ◌+◌, ◌<◌, ◌≤◌, List, [], ◌∷◌, ◌++◌, All, Option, Some, None, length, map, slice_get, zip}
 use Rattle.hart.specs.declared.state.HartState.{HartState}
 use Rattle.machine.specs.Replies.{trace_in}
 use Rattle.machine.specs.Run.{Config, StepsTo}
 use Rattle.machine.specs.Represents.{MachineView, Runs, RunsExactly, Represents}
 use Rattle.machine.specs.Stops.{StopsAt}
 use Rattle.machine.specs.declared.fault.RunStop.{RunStop}
+use Rattle.machine.specs.declared.run_trace.traced_event.EventPlace.{EventPlace}
 use Rattle.machine.specs.declared.run_trace.traced_event.TracedEvent.{TracedEvent}
 use Rattle.machine.specs.Places.{steps_before, steps_of_item}
 use Rattle.machine.specs.declared.schedule.items.Item.{Item}
@@ -17,6 +18,20 @@ use Rattle.store_trace.specs.declared.event.Event.{Event}
 
 abbrev pub events_in : List TracedEvent → List Event
 events_in traced = map (λ t. t.event) traced
+
+abbrev pub place_of : TracedEvent → EventPlace
+place_of t = record { step = t.step; pc = t.pc }
+
+abbrev pub places_in : List TracedEvent → List EventPlace
+places_in traced = map place_of traced
+
+-- an event with its place
+abbrev pub with_place : EventPlace × Event → TracedEvent
+with_place both = record { step = both.0.step; pc = both.0.pc; event = both.1 }
+
+-- events, each with its place
+abbrev pub with_places : List EventPlace → List Event → List TracedEvent
+with_places places events = map with_place (zip places events)
 
 -- the number of hart steps, those up to and with a step, of which so many come before it
 abbrev pub passed : ℕ → Step → ℕ
@@ -43,12 +58,13 @@ TracedRun n c (step ∷ steps) end traced =
     × TracedStep n c step d here × TracedRun (passed n step) d steps end others
 
 -- what a machine's run by these steps makes, each of which is there: the machine after them, with 65,536 events at most, and the
--- events
-pub record Traces (old new : MachineView) (steps : List Step) (traced : List TracedEvent) : Type 0 where
+-- places of the events
+pub record Traces (old new : MachineView) (steps : List Step) (places : List EventPlace) : Type 0 where
   pub runs : Runs old new steps
   pub exact : RunsExactly old new steps
   pub few : length new.shared.trace ≤ 65536
-  pub traces : (c : Config) → Represents old c → (d : Config) × TracedRun 0 c steps d traced × Represents new d
+  pub traces : (c : Config) → Represents old c → (d : Config) × (traced : List TracedEvent) × TracedRun 0 c steps d traced
+      × (places ≡ places_in traced) × Represents new d
 
 -- the machine makes the steps before one of the schedule's, by 65,536 events in its trace at most, and refuses that one
 pub record IsRefusedAt (old : MachineView) (items : List Item) (stop : RunStop) : Type 0 where

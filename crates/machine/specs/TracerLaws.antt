@@ -6,9 +6,11 @@ use Rattle.machine.specs.Evicting.{hart_steps}
 use Rattle.machine.specs.Run.{Config}
 use Rattle.machine.specs.RunLaws.{exactly_more, exactly_none, runs_more, runs_none}
 use Rattle.machine.specs.Represents.{Represents}
-use Rattle.machine.specs.Traced.{TracedRun, passed}
+use Rattle.machine.specs.Traced.{TracedRun, passed, place_of, places_in}
 use Rattle.machine.specs.Tracers.{Continues, Makes, Tells, TracerView, passed_all}
+use Rattle.machine.specs.declared.run_trace.traced_event.EventPlace.{EventPlace}
 use Rattle.machine.specs.declared.run_trace.traced_event.TracedEvent.{TracedEvent}
+use Rattle.std.proofs.lemmas.List.{map-append}
 
 -- hart steps are counted
 pub passed_is : (n : ℕ) (steps : List Step) → passed_all n steps ≡ n + length (hart_steps steps)
@@ -44,7 +46,9 @@ tells_more old middle new xs ys a b c stands =
       more = first.more ++ then.more;
       run = traced_joined old.made c first.end then.end xs ys first.more then.more first.run rest;
       represents = then.represents;
-      traced = then.traced ∙ ap (λ (t : List TracedEvent). t ++ then.more) first.traced ∙ append_assoc old.traced first.more then.more;
+      places = then.places ∙ ap (λ (t : List EventPlace). t ++ places_in then.more) first.places
+          ∙ append_assoc old.places (places_in first.more) (places_in then.more)
+          ∙ ap (λ (t : List EventPlace). old.places ++ t) (sym (map-append place_of first.more then.more));
     }
 
 pub makes_none : (m : TracerView) → Makes m [] m
@@ -52,7 +56,7 @@ makes_none m few = record {
   runs = runs_none m.machine;
   exact = exactly_none m.machine;
   made = refl;
-  tells = λ c s. record { end = c; more = []; run = (refl, refl); represents = s; traced = sym (append-nil m.traced) };
+  tells = λ c s. record { end = c; more = []; run = (refl, refl); represents = s; places = sym (append-nil m.places) };
 }
 
 pub makes_more : (old middle new : TracerView) (xs ys : List Step) → Makes old xs middle → Makes middle ys new → Makes old (xs ++ ys) new

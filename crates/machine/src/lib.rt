@@ -20,7 +20,7 @@ pub use laws::{
 pub use machine::{Machine, Outcome};
 pub use recording::{Recorded, Run, Setup, record, record_alone};
 pub use run_trace::{
-    TracedAlone, TracedEvent, TracedMachine, trace_alone, trace_run, traced_run_is_run,
+    EventPlace, TracedAlone, TracedEvent, TracedMachine, trace_alone, trace_run, traced_run_is_run,
 };
 pub use schedule::{Halted, Item, Place, Schedule, ScheduleFault, Step, Stepper, next_step, walk};
 pub use shared_memory::{Entry, MAX_CAPACITY, MAX_HARTS, Shared, StepFault, check_limits};

@@ -1,7 +1,8 @@
 //! Steps of one hart in a row, up to the first that makes an event.
 
-ghost use Rattle.std.specs.Prelude.{◌≡◌, ◌<◌, ◌≤◌, None, Some, replicate};
+ghost use Rattle.std.specs.Prelude.{◌≡◌, ◌<◌, ◌≤◌, None, Some, false, replicate};
 ghost use Rattle.hart.specs.Requests.{IsRequest};
+ghost use Rattle.machine.specs.Histories.{is_renewing};
 ghost use Rattle.machine.specs.Represents.{RunsBoth, text_bytes};
 ghost use Rattle.machine.specs.Rows.{IsAnswer, IsRow, IsRowOf, RunsBeforeEach};
 
@@ -120,8 +121,8 @@ fn go_on(state: &mut HartState, copy: &TextCopy, shared: &mut Shared, hart: u32,
     Row::quiet(most)
 }
 
-/// Serves the request of an instruction and tells the hart the reply, unless it is a FENCE.I or is refused. Loads, and stores below
-/// persistent memory, go by the shortest way.
+/// Serves the request of an instruction and tells the hart the reply, unless it is a FENCE.I or is refused. Loads and stores go by the
+/// shortest way.
 #[inline(always)]
 fn answer(
     state: &mut HartState,
@@ -142,7 +143,7 @@ fn answer(
             value,
         } => {
             if address >= PERSISTENT_BASE {
-                return answer_any(state, shared, hart, instr, request);
+                return serve(state, shared, hart, instr, request);
             }
             shared.store_below(hart, address, width, value)
         }
@@ -167,6 +168,23 @@ fn answer_any(
     if let Request::FenceI = request {
         return Answered::Not;
     }
+    serve(state, shared, hart, instr, request)
+}
+
+/// The same for one that is no FENCE.I.
+#[inline(always)]
+fn serve(
+    state: &mut HartState,
+    shared: &mut Shared,
+    hart: u32,
+    instr: Instr,
+    request: Request,
+) -> Answered
+    requires few { hart < 8 }
+    requires width { IsRequest request }
+    requires kept { is_renewing request ≡ false }
+    ensures { IsAnswer result hart state.old state.new shared.old shared.new instr request }
+{
     let before = shared.events().len();
     let Ok(reply) = shared.request(hart, request) else {
         return Answered::Not;

@@ -7,5 +7,5 @@ mod tracer;
 
 pub use alone::{TracedAlone, trace_alone};
 pub use laws::traced_run_is_run;
-pub use traced_event::TracedEvent;
+pub use traced_event::{EventPlace, TracedEvent};
 pub use tracer::{TracedMachine, trace_run};

@@ -491,8 +491,8 @@ fn store_of(address: u64, width: u32, value: u64) -> Event
     Event::Store {
         hart: 0,
         line,
-        offset,
-        width,
+        offset: offset as u8,
+        width: width as u8,
         value,
     }
 }

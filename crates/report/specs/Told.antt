@@ -1,7 +1,6 @@
 -- Events of a trace file as they are told: by the names of their lines, and with where each was made.
 use Rattle.std.specs.Prelude.{◌≡◌, ◌+◌, ◌<◌, ℕ, Bool, true, false, List, Some, All, Contains, length, map, slice_get, slice_index_or}
 use Rattle.std.specs.Cmp.Lexicographic.{slice_cmp}
-use Rattle.std.specs.Cow.{cow_slice_items}
 use Rattle.std.specs.Global.{Vec}
 use Rattle.std.specs.List.{range_with_len}
 use Rattle.std.specs.List.Sorted.{IsSorted}
@@ -75,7 +74,7 @@ pub record ArePlaced (names : List ℕ) (events : List Event) (texts : List (Vec
 
 -- the events that are told, each with its step and its pc, or with the numbers that stand for these
 abbrev pub events_in : ToldEvents → List TracedEvent
-events_in told = cow_slice_items told.traced
+events_in told = told.traced.items
 
 -- those of a file, and with all place words of each line
 pub record AreOfFile (ranked : RankedTrace) (told : ToldEvents) : Type 0 where

@@ -146,7 +146,7 @@ impl fmt::Display for ActText {
                 value,
                 ..
             } => {
-                let value = stored(value, width);
+                let value = stored(value, u32::from(width));
                 write!(f, " l{line}+{offset} w{width} 0x{value:x}")
             }
             Event::Clean { line, .. } => write!(f, " l{line}"),

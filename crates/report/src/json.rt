@@ -120,7 +120,7 @@ impl fmt::Display for ActMembers {
                 value,
                 ..
             } => {
-                let value = stored(value, width);
+                let value = stored(value, u32::from(width));
                 write!(
                     f,
                     ",\"cache_line\":{line},\"offset\":{offset},\"width\":{width},\"value\":\"0x{value:x}\""

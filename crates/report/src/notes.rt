@@ -45,8 +45,9 @@ pub fn notes_text(
     let words = words_of(alloc, text)?;
     // That these are the run's events is what the answer is proved by.
     let _events = run.trace().events();
+    let traced = run.traced(alloc)?;
     let index = TraceIndex::new(alloc, run.start(), run.trace())?;
-    tell_notes(alloc, &words, &index, run.traced(), places)
+    tell_notes(alloc, &words, &index, &traced, places)
 }
 
 fn tell_notes(

@@ -12,15 +12,14 @@ use crate::origin::Origin;
 use crate::place::{CodePlace, Places};
 use machine::TracedEvent;
 use std::alloc::{AllocError, Global};
-use std::borrow::CowSlice;
 use store_trace::Event;
 use trace_file::{RankedTrace, spaced_words, with_name};
 
-/// Events as they are told: each by the name of its line, and with where it was made. A run lends its own. Of a trace file an event has
+/// Events as they are told: each by the name of its line, and with where it was made. Of a trace file an event has
 /// the number of its line as its step, and the number of its place, as `Places` has it, as its pc.
 #[derive(Drop)]
 pub struct ToldEvents<'a> {
-    pub traced: CowSlice<'a, TracedEvent>,
+    pub traced: Vec<TracedEvent>,
     pub places: Places<'a>,
     /// Of a trace file the place words of each event, all of them, each behind a blank. The places lack those that begin with `step=`.
     pub lines: Option<Vec<Vec<u8>>>,
@@ -42,7 +41,7 @@ impl<'a> ToldEvents<'a> {
         let traced = placed(alloc, events, &ranked.names, &ranked.places, &places)?;
         let lines = spaced(alloc, &ranked.places, true)?;
         Ok(ToldEvents {
-            traced: CowSlice::Owned(traced),
+            traced,
             places: Places::Traced(places),
             lines: Some(lines),
         })

@@ -1,8 +1,9 @@
 -- The lines of the address space that aren't as they were at the start, each with the number of its state.
 use Rattle.std.specs.Prelude.{ℕ, ◌==◌, ◌<◌, ◌++◌, not, nat_le, nat_lt, Bool, List, [], ◌∷◌, Option, Some, None, filter, map, if◌then◌else◌}
-use Rattle.std.specs.Global.{Vec}
 use Rattle.std.specs.List.{AllByRecursion}
 use Rattle.schedule_states.specs.declared.held_lines.HeldLine.{HeldLine}
+use Rattle.schedule_states.specs.declared.memory_lists.Lists.{Lists}
+use Rattle.schedule_states.specs.declared.memory_lists.Lists.TheVariants as stand
 
 -- the number of the state of line l, if it has one
 abbrev pub number_of : List HeldLine → ℕ → Option ℕ
@@ -29,7 +30,7 @@ on_medium held = filter is_of_medium held
 abbrev pub AreBelow : ℕ → List HeldLine → Type 0
 AreBelow count held = AllByRecursion (λ h. h.state < count) held
 
--- lists, and those behind them that a look has found, if it may find any
-abbrev pub lists_in : List (Vec HeldLine) → Option (Vec (Vec HeldLine)) → List (List HeldLine)
-lists_in lists None = map (λ list. list.items) lists
-lists_in lists (Some further) = map (λ list. list.items) (lists ++ further.items)
+-- the lists, and those behind them that a look has found
+abbrev pub lists_in : Lists → List (List HeldLine)
+lists_in (stand.Own lists) = map (λ list. list.items) lists
+lists_in (stand.Lent lists further) = map (λ list. list.items) (lists.now ++ further.items)

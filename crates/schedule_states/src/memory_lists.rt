@@ -5,7 +5,6 @@ ghost use Rattle.schedule_states.specs.HeldLines.{lists_in};
 ghost use Rattle.schedule_states.specs.Numbers.{AreKept};
 ghost use Rattle.schedule_states.specs.Sizes.{list_bytes};
 ghost use Rattle.schedule_states.specs.declared.held_lines.HeldLine.{HeldLine as AHeldLine};
-ghost use Rattle.std.specs.Global.{Vec as AVec};
 
 use crate::held_lines::HeldLine;
 use crate::laws::equal_lists_are_same;
@@ -16,11 +15,18 @@ use std::marker::Model;
 /// Lists of held lines, by their numbers. A number stays that of its list. Each stands there once, but for those that a look has found.
 #[derive(Drop)]
 pub struct MemoryLists<'a> {
-    lists: Numbers<'a, Vec<HeldLine>>,
-    /// Where the lists are lent for a look: those that it has found, behind them.
-    further: Option<Vec<Vec<HeldLine>>>,
+    lists: Lists<'a>,
     /// How many lines they hold in all.
     lines: u64,
+}
+
+/// Whose the lists are.
+#[derive(Drop)]
+enum Lists<'a> {
+    /// Each once.
+    Own(Numbers<'static, Vec<HeldLine>>),
+    /// Lent for a look, and those behind them that it has found.
+    Lent(&'a Numbers<'static, Vec<HeldLine>>, Vec<Vec<HeldLine>>),
 }
 
 impl<'a> Model for MemoryLists<'a> {
@@ -31,9 +37,9 @@ impl<'a> Model for MemoryLists<'a> {
 
     ghost Value = { List (List AHeldLine) };
 
-    ghost view = { λ m. lists_in m.lists m.further };
+    ghost view = { λ m. lists_in m.lists };
 
-    ghost invariant = { λ m. m.lines ≡ lines_in (lists_in m.lists m.further) };
+    ghost invariant = { λ m. m.lines ≡ lines_in (lists_in m.lists) };
 }
 
 impl<'a> MemoryLists<'a> {
@@ -42,8 +48,7 @@ impl<'a> MemoryLists<'a> {
         ensures { result ≡ [] }
     {
         MemoryLists {
-            lists: Numbers::new(alloc),
-            further: None,
+            lists: Lists::Own(Numbers::new(alloc)),
             lines: 0,
         }
     }
@@ -52,13 +57,12 @@ impl<'a> MemoryLists<'a> {
     pub fn lent(&self, alloc: Global) -> Option<MemoryLists<'_>>
         ensures { IfSome result (λ lent. lent ≡ self.now) }
     {
-        match &self.further {
-            Some(_) => None,
-            None => Some(MemoryLists {
-                lists: self.lists.lent(),
-                further: Some(Vec::new(alloc)),
+        match &self.lists {
+            Lists::Own(lists) => Some(MemoryLists {
+                lists: Lists::Lent(lists, Vec::new(alloc)),
                 lines: self.lines,
             }),
+            Lists::Lent(_, _) => None,
         }
     }
 
@@ -66,7 +70,7 @@ impl<'a> MemoryLists<'a> {
     pub fn count(&self) -> usize
         ensures { result ≡ length self.now }
     {
-        count_of(&self.lists, &self.further)
+        self.lists.count()
     }
 
     /// The list of a number.
@@ -75,11 +79,12 @@ impl<'a> MemoryLists<'a> {
         ensures { slice_get self.now number ≡ Some result.now }
     {
         let at = number as usize;
-        let lists = self.lists.as_slice();
+        let (lists, further) = self.lists.parts();
+        let lists = lists.as_slice();
         if at < lists.len() {
             return lists[at].as_slice();
         }
-        as_slice(&self.further)[at - lists.len()].as_slice()
+        further[at - lists.len()].as_slice()
     }
 
     /// The number of a list, which is a new one where it has none yet; a look knows of its own lists the last one alone. Over 2^32 lists count
@@ -90,9 +95,9 @@ impl<'a> MemoryLists<'a> {
         ensures number { IfOk result (λ number. slice_get self.new number ≡ Some list.items) }
     {
         let lines = grown(self.lines, list.len())?;
-        let known = count_of(&self.lists, &self.further);
-        let number = number_among(&mut self.lists, &mut self.further, list);
-        if count_of(&self.lists, &self.further) > known {
+        let known = self.lists.count();
+        let number = self.lists.number_of(list);
+        if self.lists.count() > known {
             self.lines = lines;
         }
         number
@@ -107,38 +112,36 @@ impl<'a> MemoryLists<'a> {
     }
 }
 
-/// How many lists there are, with those that a look has found.
-fn count_of(lists: &Numbers<'_, Vec<HeldLine>>, further: &Option<Vec<Vec<HeldLine>>>) -> usize
-    ensures { result ≡ length (lists_in lists.now further.now) }
-{
-    lists.count() + as_slice(further).len()
-}
-
-/// Those that it has found, if it may find any.
-fn as_slice(further: &Option<Vec<Vec<HeldLine>>>) -> &[Vec<HeldLine>]
-    ensures lists { (lists : List (AVec AHeldLine)) → lists_in lists further.now ≡ map (λ list. list.items) (lists ++ result.now) }
-    ensures few { length result.now < 2 ^ 63 }
-{
-    match further {
-        Some(found) => found.as_slice(),
-        None => &[],
+impl<'a> Lists<'a> {
+    /// The lists that stand there once, and those behind them that a look has found.
+    fn parts(&self) -> (&Numbers<'static, Vec<HeldLine>>, &[Vec<HeldLine>])
+        ensures lists { lists_in self.now ≡ map (λ list. list.items) (result.0.now ++ result.1.now) }
+        ensures few { length result.1.now < 2 ^ 63 }
+    {
+        match self {
+            Lists::Own(lists) => (lists, &[]),
+            Lists::Lent(lists, further) => (*lists, further.as_slice()),
+        }
     }
-}
 
-/// The number of a list among these, which is a new one where it has none yet.
-fn number_among(
-    lists: &mut Numbers<'_, Vec<HeldLine>>,
-    further: &mut Option<Vec<Vec<HeldLine>>>,
-    list: Vec<HeldLine>,
-) -> Result<u32, AllocError>
-    ensures appended { (lists_in lists.new further.new ≡ lists_in lists.old further.old)
-        ⊎ (lists_in lists.new further.new ≡ lists_in lists.old further.old ++ list.items ∷ []) }
-    ensures number { IfOk result (λ number. slice_get (lists_in lists.new further.new) number ≡ Some list.items) }
-{
-    equal_lists_are_same();
-    match further {
-        Some(found) => number_behind(lists, found, list),
-        None => lists.number_of(list),
+    /// How many there are.
+    fn count(&self) -> usize
+        ensures { result ≡ length (lists_in self.now) }
+    {
+        let (lists, further) = self.parts();
+        lists.count() + further.len()
+    }
+
+    /// The number of a list, which is a new one where it has none yet.
+    fn number_of(&mut self, list: Vec<HeldLine>) -> Result<u32, AllocError>
+        ensures appended { (lists_in self.new ≡ lists_in self.old) ⊎ (lists_in self.new ≡ lists_in self.old ++ list.items ∷ []) }
+        ensures number { IfOk result (λ number. slice_get (lists_in self.new) number ≡ Some list.items) }
+    {
+        equal_lists_are_same();
+        match self {
+            Lists::Own(lists) => lists.number_of(list),
+            Lists::Lent(lists, further) => number_behind(lists, further, list),
+        }
     }
 }
 

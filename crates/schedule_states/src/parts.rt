@@ -423,7 +423,7 @@ impl<'a> Parts<'a> {
     }
 
     /// How many states lines have come to have.
-    pub(crate) fn states(&self) -> usize
+    pub(crate) fn line_states(&self) -> usize
         ensures { result ≡ length self.now.table.states }
     {
         self.lines.count()

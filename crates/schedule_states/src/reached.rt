@@ -466,7 +466,8 @@ impl<'a, J: StateJudge> Reached<'a, J> {
         requires there { numbers.memory < length look.now.lists }
         ensures { IfSome result (IsListedOf self.now look.now hart numbers) }
     {
-        if look.states() != self.parts.states() || !self.are_others_there(&numbers) {
+        // A look finds no states of lines; only the comparison says so.
+        if look.line_states() != self.parts.line_states() || !self.are_others_there(&numbers) {
             return None;
         }
         let list = Vec::from_slice(alloc, look.held(numbers.memory)).ok()?;

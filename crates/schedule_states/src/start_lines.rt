@@ -7,11 +7,11 @@ ghost use Rattle.schedule_states.specs.StartLines.{AreOf, LacksLine, ShowsLine, 
 
 use line_memory::{
     DATA_BASE, DATA_SIZE, LINE_SIZE, Medium, MediumFault, PERSISTENT_BASE, TEXT_BASE, TEXT_SIZE,
+    padded_bytes,
 };
 use program::Program;
 use std::alloc::Global;
 use std::marker::Model;
-use word_bits::replace_bytes;
 
 /// The first lines of the regions.
 const TEXT_LINE: u64 = 1_024;
@@ -124,17 +124,4 @@ fn lines_of(alloc: Global, bytes: &[u8], size: usize) -> Result<Medium, MediumFa
         Ok(lines) => Ok(lines),
         Err(_) => Err(MediumFault::Memory),
     }
-}
-
-/// These bytes, and zeros up to a size.
-#[tactic(auto, using(line_memory::proofs::Loops::padded_is))]
-fn padded_bytes(alloc: Global, bytes: &[u8], size: usize) -> Result<Vec<u8>, MediumFault>
-    requires { length bytes.now ≤ size }
-    ensures ok { IfOk result (λ made. made.items ≡ padded bytes.now size) }
-    ensures whole { IfOk result (λ made. length made.items ≡ size) }
-    ensures err { IfErr result (λ fault. fault ≡ MediumFault.Memory) }
-{
-    let mut made = vec![in alloc; 0u8; size]?;
-    replace_bytes(&mut made, 0, bytes);
-    Ok(made)
 }

@@ -9,15 +9,16 @@ pub const MAX_HARTS: usize = 8;
 /// What one instruction of a hart did to persistent memory, or the mark of an operation that it set.
 ///
 /// Harts are numbered from 0 to 7 and lines of 64 bytes from 0, the first line of persistent memory;
-/// an offset is a byte's place in its line, and a width is a number of bytes.
+/// an offset is a byte's place in its line, and a width is a number of bytes. Offsets and widths are small:
+/// in 8 bits each, an event takes 24 bytes.
 #[derive(Clone, Copy, Debug, PartialEq, Eq)]
 pub enum Event {
     /// A store, an AMO or a successful SC: the low `width` bytes of `value`, the least significant first.
     Store {
         hart: u32,
         line: u32,
-        offset: u32,
-        width: u32,
+        offset: u8,
+        width: u8,
         value: u64,
     },
     /// A `cbo.clean`, `cbo.flush` or `cbo.inval` of the line.

@@ -2,14 +2,18 @@
 
 ghost use Rattle.store_trace.specs.TraceView.{IsEvent};
 ghost use Rattle.std.specs.Prelude.{◌≡◌, ◌<◌, ◌≤◌, ◌↔◌, [], ◌∷◌, ◌++◌, length, All, IsTrue, IsOk, OnOk, OnErr};
+ghost use Rattle.std.specs.Vec.{vec_capacity, vec_len};
 
 use crate::Event;
-use std::alloc::Global;
+use std::alloc::{AllocError, Global};
 use std::marker::Model;
 use thiserror::Error;
 
 /// The most events that a trace holds.
 pub const MAX_EVENTS: usize = 65_536;
+
+/// How many events a trace has room for at first.
+const FEW_EVENTS: usize = 128;
 
 /// Why an event can't be added.
 #[derive(Debug, Drop, Error)]
@@ -78,11 +82,12 @@ impl Trace {
         if self.is_full() {
             return Err(TraceFault::Full);
         }
-        self.events.reserve(1).map_err(|_| TraceFault::Memory)
+        make_room(&mut self.events).map_err(|_| TraceFault::Memory)
     }
 
     /// Adds `event` at the end. With a place in reserve it succeeds; a refused call leaves the events
     /// as they were.
+    #[inline(always)]
     pub fn push(&mut self, event: Event) -> Result<(), TraceFault>
         requires { IsEvent event }
         ensures reserved { 0 < self.old.room → IsOk result }
@@ -93,6 +98,39 @@ impl Trace {
         if self.is_full() {
             return Err(TraceFault::Full);
         }
+        if make_room(&mut self.events).is_err() {
+            return Err(TraceFault::Memory);
+        }
         self.events.push(event).map_err(|_| TraceFault::Memory)
     }
+}
+
+/// Makes room for one more event.
+#[inline(always)]
+fn make_room(events: &mut Vec<Event>) -> Result<(), AllocError>
+    requires { vec_len events.old < 65536 }
+    ensures items { events.new.items ≡ events.old.items }
+    ensures ok { OnOk result (vec_len events.new < vec_capacity events.new) }
+    ensures full { OnErr result (vec_capacity events.old ≤ vec_len events.old) }
+{
+    if events.len() < events.capacity() {
+        return Ok(());
+    }
+    grow(events)
+}
+
+/// Makes room for some events at first, and then for as many as a trace may hold: a page of memory is taken when its first event is
+/// stored.
+fn grow(events: &mut Vec<Event>) -> Result<(), AllocError>
+    requires few { vec_len events.old < 65536 }
+    ensures items { events.new.items ≡ events.old.items }
+    ensures ok { OnOk result (vec_len events.new < vec_capacity events.new) }
+{
+    let count = events.len();
+    let most = if count < FEW_EVENTS {
+        FEW_EVENTS
+    } else {
+        MAX_EVENTS
+    };
+    events.reserve_exact(most - count)
 }

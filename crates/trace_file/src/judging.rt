@@ -32,6 +32,7 @@ fn at_most(number: Number, greatest: u64) -> Option<u64>
 fn narrow(number: Number, greatest: u32) -> Option<u32>
     ensures none { IfNone result ((n : ℕ) → IsOf n number → greatest < n) }
     ensures some { IfSome result (IsKept number greatest) }
+    ensures most { IfSome result (λ kept. kept ≤ greatest) }
 {
     let kept = at_most(number, u64::from(greatest))?;
     Some(kept as u32)
@@ -78,8 +79,8 @@ pub(crate) struct StoreNumbers {
 /// What a store writes in its line, and where.
 #[derive(Clone, Copy)]
 struct Written {
-    offset: u32,
-    width: u32,
+    offset: u8,
+    width: u8,
     value: u64,
 }
 
@@ -94,10 +95,9 @@ fn fitting(store: StoreNumbers) -> Option<Written>
     let offset = narrow(store.offset, LAST_OFFSET)?;
     let value = at_most(store.value, width.greatest)?;
     if offset % width.bytes == 0 {
-        let width = width.bytes;
         Some(Written {
-            offset,
-            width,
+            offset: offset as u8,
+            width: width.bytes as u8,
             value,
         })
     } else {

@@ -11,6 +11,7 @@ pub mod BranchesBranching
 pub mod Alikes
 pub mod Nodes
 pub mod Numbering
+pub mod Paging
 pub mod Splitting
 pub mod Counting
 pub mod Lowest

@@ -3,6 +3,7 @@
 
 pub use laws::{Asking, floor_adds_no_branches, store_adds_no_branches};
 pub use line_bytes::LineBytes;
+pub use numbers::Numbers;
 pub use opener::{Opened, Opener};
 pub use question::Question;
 pub use recovery::Recovery;
@@ -15,6 +16,7 @@ mod line_bytes;
 mod lines;
 mod numbers;
 mod opener;
+mod paged;
 mod pieces;
 mod progress;
 mod question;

@@ -21,6 +21,7 @@ use isa_table::{
 };
 
 /// The statement that a name begins.
+#[inline(always)]
 #[tactic(auto, using(crate::proofs::Directives::dotted))]
 pub fn mnemonic_of(text: &[u8]) -> Option<Mnemonic>
     ensures { result ≡ mnemonic_of text.now }
@@ -116,6 +117,7 @@ fn single_of(text: &[u8]) -> Option<Mnemonic>
     named(&SINGLES, text)
 }
 
+#[inline(always)]
 #[tactic(auto, unfolding(crate::specs::Mnemonics::directive_of))]
 fn directive_of(text: &[u8]) -> Option<Mnemonic>
     ensures { result ≡ directive_of text.now }

@@ -132,7 +132,7 @@ fn after_comma<'s, 'a>(lexemes: &'s [Kind<'a>]) -> Option<Option<&'s [Kind<'a>]>
 }
 
 /// A number modulo its width, where it is in the range from minus half the unsigned one to its end.
-fn stored(width: NumberWidth, number: SignedNumber) -> Result<u64, AsmCode>
+pub(crate) fn stored(width: NumberWidth, number: SignedNumber) -> Result<u64, AsmCode>
     ensures value { result ≡ stored width number }
     ensures in_range { IfOk result (λ v. v < 2 ^ (8 * width_bytes width)) }
 {

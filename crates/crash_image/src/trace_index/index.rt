@@ -43,7 +43,7 @@ impl<'a> Model for TraceIndex<'a> {
 impl<'a> TraceIndex<'a> {
     /// The index of the trace, which started from the medium, by one pass over the events. For a store it takes
     /// the 64 bytes of its line and a number, for a fence at most two numbers for each line that its hart cleaned,
-    /// and a fixed size for each 64 lines of which one is stored to.
+    /// and a fixed size for each 64 lines of which one is stored to or cleaned.
     pub fn new(
         alloc: Global,
         medium: &'a Medium,

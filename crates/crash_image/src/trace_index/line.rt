@@ -3,7 +3,7 @@
 ghost use Rattle.crash_image.specs.Lines.{AreBefore, FitsLine, IsPlace, bytes_before, floor_before, raise_event, raised_to, store_event, unstored, with_store};
 ghost use Rattle.store_trace.specs.TraceView.{IsWidth};
 ghost use Rattle.word_bits.specs.Bytes.{stored};
-ghost use Rattle.std.specs.Prelude.{◌≡◌, ℕ, ◌-◌, ◌<◌, ◌≤◌, ◌%◌, ◌++◌, ◌∷◌, [], length, IfOk, IsTrue, OnOk};
+ghost use Rattle.std.specs.Prelude.{◌≡◌, ℕ, ◌<◌, ◌≤◌, ◌%◌, length, IfOk, IsTrue, OnOk};
 
 use line_memory::store_bytes;
 use std::alloc::{AllocError, Global};
@@ -22,8 +22,8 @@ pub struct StoredLine {
 #[derive(Clone, Copy)]
 pub struct Stored {
     pub event: u32,
-    pub offset: u32,
-    pub width: u32,
+    pub offset: u8,
+    pub width: u8,
     pub value: u64,
 }
 
@@ -152,7 +152,7 @@ impl LineIndex {
 
 /// Writes the low `width` bytes of `value` at the `offset` of a line's bytes.
 #[tactic(auto, using(crate::proofs::Steps::aligned_fits))]
-fn store_in_line(bytes: &mut [u8; 64], offset: u32, width: u32, value: u64)
+fn store_in_line(bytes: &mut [u8; 64], offset: u8, width: u8, value: u64)
     requires width { IsWidth width }
     requires aligned { offset % width ≡ 0 }
     requires offset { offset < 64 }

@@ -11,7 +11,7 @@ use std::marker::Model;
 /// How many lines a page has.
 pub const PAGE: u32 = 64;
 
-/// As many lines of the medium. They are made when one of them is first stored to.
+/// As many lines of the medium. They are made when one of them is first stored to or cleaned.
 ///
 /// A contract sees the lines.
 #[derive(Drop)]
@@ -99,12 +99,12 @@ fn make(alloc: Global, lines: &mut Vec<LineIndex>) -> Result<(), AllocError>
     ensures err { OnErr result (IsMade lines.new.items) }
 {
     if lines.is_empty() {
-        *lines = no_lines(alloc)?;
+        *lines = unstored_lines(alloc)?;
     }
     Ok(())
 }
 
-fn no_lines(alloc: Global) -> Result<Vec<LineIndex>, AllocError>
+fn unstored_lines(alloc: Global) -> Result<Vec<LineIndex>, AllocError>
     ensures { IfOk result (λ made. made.items ≡ replicate 64 unstored) }
 {
     let mut made = Vec::with_capacity(alloc, PAGE as usize)?;

@@ -9,7 +9,7 @@ use crate::trace_index::page::{PAGE, Page};
 use std::alloc::{AllocError, Global};
 use std::marker::Model;
 
-/// The lines of the medium by pages, so that a large medium takes little where few of its lines are stored to.
+/// The lines of the medium by pages, so that a large medium takes little where few of its lines are stored to or cleaned.
 ///
 /// A contract sees the lines.
 #[derive(Drop)]

@@ -4,7 +4,7 @@ ghost use Rattle.machine.specs.Left.{IsLeftBy};
 ghost use Rattle.machine.specs.Run.{started};
 ghost use Rattle.machine.specs.Recorded.{FailsToRecord, HasGoneOn, IsAtStep, Records};
 ghost use Rattle.machine.specs.Traced.{steps_alone};
-ghost use Rattle.machine.specs.declared.run_trace.traced_event.TracedEvent.{TracedEvent as AnEvent};
+ghost use Rattle.machine.specs.declared.run_trace.traced_event.EventPlace.{EventPlace as APlace};
 ghost use Rattle.machine.specs.Steps.{all_steps};
 ghost use Rattle.machine.specs.Limits.{AreWithinLimits};
 ghost use Rattle.std.specs.Prelude.{◌≡◌, IfErr, IfOk, OnOk, length, map};
@@ -62,7 +62,7 @@ fn finish_alone(
     capacity: u32,
 ) -> Result<Recorded, StepFault>
     requires lines { length traced.run.machine.shared.cache.lines ≡ length start }
-    requires each { length traced.run.traced.items ≡ length traced.run.machine.shared.trace }
+    requires each { length traced.run.places.items ≡ length traced.run.machine.shared.trace }
     ensures ok { IfOk result (λ recorded. recorded ≡ record {
       start = start;
       capacity = capacity;
@@ -70,7 +70,7 @@ fn finish_alone(
       trace = traced.run.machine.shared.trace;
       harts = traced.run.machine.harts;
       left = traced.run.machine.shared.cache.lines;
-      steps = map (λ (event : AnEvent). event.step) traced.run.traced.items;
+      steps = map (λ (place : APlace). place.step) traced.run.places.items;
     }) }
     ensures err { IfErr result (λ fault. fault ≡ StepFault.Memory) }
 {

@@ -1,24 +1,24 @@
 //! What is kept of a run that was made.
 
 ghost use Rattle.std.specs.Prelude.{◌≡◌, ◌∷◌, ◌++◌, [], IfErr, IfOk, length, map};
-ghost use Rattle.machine.specs.declared.run_trace.traced_event.TracedEvent.{TracedEvent as AnEvent};
+ghost use Rattle.machine.specs.declared.run_trace.traced_event.EventPlace.{EventPlace as APlace};
 
 use crate::recording::recorded::Recorded;
-use crate::{Machine, Schedule, StepFault, TracedEvent, TracedMachine};
+use crate::{EventPlace, Machine, Schedule, StepFault, TracedMachine};
 use hart::HartState;
 use line_memory::Medium;
 use std::alloc::Global;
 
-/// What there is to know of a run from `start` by `schedule`, and its events.
+/// What there is to know of a run from `start` by `schedule`, and the places of its events.
 pub(crate) fn finish(
     alloc: Global,
     run: TracedMachine,
     start: Medium,
     capacity: u32,
     schedule: &Schedule,
-) -> Result<(Recorded, Vec<TracedEvent>), StepFault>
+) -> Result<(Recorded, Vec<EventPlace>), StepFault>
     requires lines { length run.machine.shared.cache.lines ≡ length start }
-    requires each { length run.traced.items ≡ length run.machine.shared.trace }
+    requires each { length run.places.items ≡ length run.machine.shared.trace }
     ensures ok { IfOk result (λ kept. kept.0 ≡ record {
       start = start;
       capacity = capacity;
@@ -26,26 +26,26 @@ pub(crate) fn finish(
       trace = run.machine.shared.trace;
       harts = run.machine.harts;
       left = run.machine.shared.cache.lines;
-      steps = map (λ (event : AnEvent). event.step) run.traced.items;
+      steps = map (λ (place : APlace). place.step) run.places.items;
     }) }
-    ensures traced { IfOk result (λ kept. kept.1.items ≡ run.traced.items) }
+    ensures places { IfOk result (λ kept. kept.1.items ≡ run.places.items) }
     ensures err { IfErr result (λ fault. fault ≡ StepFault.Memory) }
 {
-    let TracedMachine { machine, traced } = run;
-    let numbers = numbers_of(alloc, &traced)?;
+    let TracedMachine { machine, places } = run;
+    let numbers = numbers_of(alloc, &places)?;
     let harts = states_of(alloc, &machine)?;
     let schedule = schedule.copy(alloc).map_err(|_| StepFault::Memory)?;
     let (left, trace) = machine.power_cut();
     let recorded = Recorded::of(start, capacity, schedule, trace, harts, left, numbers);
-    Ok((recorded, traced))
+    Ok((recorded, places))
 }
 
 /// For each event the number of its hart step.
-fn numbers_of(alloc: Global, traced: &[TracedEvent]) -> Result<Vec<u32>, StepFault>
-    ensures ok { IfOk result (λ numbers. numbers.items ≡ map (λ (event : AnEvent). event.step) traced.now) }
+fn numbers_of(alloc: Global, places: &[EventPlace]) -> Result<Vec<u32>, StepFault>
+    ensures ok { IfOk result (λ numbers. numbers.items ≡ map (λ (place : APlace). place.step) places.now) }
     ensures err { IfErr result (λ fault. fault ≡ StepFault.Memory) }
 {
-    match traced.iter().map(|event| event.step).collect(alloc) {
+    match places.iter().map(|place| place.step).collect(alloc) {
         Ok(numbers) => Ok(numbers),
         Err(_) => Err(StepFault::Memory),
     }

@@ -2,7 +2,7 @@
 
 ghost use Rattle.machine.specs.Recorded.{FailsToRecord, IsAtStep, Records};
 ghost use Rattle.machine.specs.RunValues.{IsRecordOf, IsRun, run_of, start_of};
-ghost use Rattle.machine.specs.Traced.{events_in};
+ghost use Rattle.machine.specs.Traced.{events_in, with_places};
 ghost use Rattle.machine.specs.Grammar.{hart_steps as count_of_hart_steps};
 ghost use Rattle.std.specs.Prelude.{◌≡◌, ◌^◌, ◌<◌, ◌≤◌, All, IfErr, IfOk, length};
 ghost use Rattle.store_trace.specs.TraceView.{NamesLine};
@@ -11,32 +11,33 @@ use crate::recording::finishing::finish;
 use crate::recording::recorded::Recorded;
 use crate::recording::recording::{before_all, machine_of};
 use crate::recording::setup::Setup;
-use crate::{RunStop, Schedule, TracedEvent, trace_run};
+use crate::{EventPlace, RunStop, Schedule, TracedEvent, trace_run};
 use hart::HartState;
 use line_memory::Medium;
 use program::Program;
-use std::alloc::Global;
+use std::alloc::{AllocError, Global};
 use std::marker::Model;
-use store_trace::Trace;
+use store_trace::{Event, Trace};
 
 /// A run of a program by a schedule. It is made once, and lent to each question that is asked of it.
 #[derive(Drop)]
 pub struct Run {
     program: Program,
     recorded: Recorded,
-    traced: Vec<TracedEvent>,
+    places: Vec<EventPlace>,
 }
 
 impl Model for Run {
     ghost use Rattle.machine.specs.Recorded.{Records};
     ghost use Rattle.machine.specs.RunValues.{IsRun, RunView, run_of, start_of};
+    ghost use Rattle.machine.specs.Traced.{with_places};
 
     ghost Value = { RunView };
 
-    ghost view = { λ r. run_of r.program r.recorded r.traced.items };
+    ghost view = { λ r. run_of r.program r.recorded (with_places r.places.items r.recorded.trace) };
 
-    ghost invariant = { λ r. IsRun (run_of r.program r.recorded r.traced.items)
-        × Records (start_of (run_of r.program r.recorded r.traced.items).setup) r.recorded };
+    ghost invariant = { λ r. IsRun (run_of r.program r.recorded (with_places r.places.items r.recorded.trace))
+        × Records (start_of (run_of r.program r.recorded (with_places r.places.items r.recorded.trace)).setup) r.recorded };
 }
 
 impl Run {
@@ -70,10 +71,10 @@ impl Run {
             ..
         } = setup;
         match finish(alloc, run, medium, capacity, schedule) {
-            Ok((recorded, traced)) => Ok(Run {
+            Ok((recorded, places)) => Ok(Run {
                 program,
                 recorded,
-                traced,
+                places,
             }),
             Err(fault) => Err(before_all(fault)),
         }
@@ -98,11 +99,11 @@ impl Run {
 
     /// The events, each with the number of the hart step that made it, the first one's being 1, and the pc that its hart had before
     /// that step.
-    pub fn traced(&self) -> &[TracedEvent]
-        ensures value { result.now ≡ self.now.traced }
+    pub fn traced(&self, alloc: Global) -> Result<Vec<TracedEvent>, AllocError>
+        ensures value { IfOk result (λ traced. traced.items ≡ self.now.traced) }
         ensures events { events_in self.now.traced ≡ self.now.events }
     {
-        &self.traced
+        traced_of(alloc, &self.places, self.recorded.trace().events())
     }
 
     /// The harts' states at the end, by their number.
@@ -137,4 +138,23 @@ impl Run {
     {
         self.recorded
     }
+}
+
+/// Events, each with its place.
+fn traced_of(
+    alloc: Global,
+    places: &[EventPlace],
+    events: &[Event],
+) -> Result<Vec<TracedEvent>, AllocError>
+    ensures { IfOk result (λ traced. traced.items ≡ with_places places.now events.now) }
+{
+    places
+        .iter()
+        .zip(events)
+        .map(|(place, event)| TracedEvent {
+            step: place.step,
+            pc: place.pc,
+            event: *event,
+        })
+        .collect(alloc)
 }

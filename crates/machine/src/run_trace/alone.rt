@@ -14,14 +14,14 @@ use std::alloc::Global;
 /// What a hart has made that went on alone.
 #[derive(Drop)]
 pub struct TracedAlone {
-    /// The machine after its steps, and the events that they made.
+    /// The machine after its steps, and the places of the events that they made.
     pub run: TracedMachine,
     /// How many steps it has made.
     pub made: u32,
 }
 
-/// Makes the steps of one hart of a machine until it has stopped or has made so many; and gives the machine and the events that
-/// this makes, in order, each with the number of its hart step, from 1, and the pc that the hart had before that step. The step
+/// Makes the steps of one hart of a machine until it has stopped or has made so many; and gives the machine and, for each
+/// event that this makes, in order, the number of its hart step, from 1, and the pc that the hart had before that step. The step
 /// by which the hart stops counts, and is the last.
 ///
 /// # Errors
@@ -33,7 +33,7 @@ pub fn trace_alone(
     hart: u32,
     most: u32,
 ) -> Result<TracedAlone, RunStop>
-    ensures ok { IfOk result (λ made. Traces machine made.run.machine (replicate made.made (Step.Hart hart)) made.run.traced.items) }
+    ensures ok { IfOk result (λ made. Traces machine made.run.machine (replicate made.made (Step.Hart hart)) made.run.places.items) }
     ensures most { IfOk result (λ made. made.made ≤ most) }
     ensures ended { IfOk result (λ made. (is_stopped (slice_get made.run.machine.harts hart) ≡ true) ⊎ (made.made ≡ most)) }
     ensures running { IfOk result (λ made. RunsBeforeEach machine hart made.made) }
@@ -42,19 +42,19 @@ pub fn trace_alone(
     let mut tracer = Tracer {
         machine,
         made: 0,
-        traced: Vec::new(alloc),
+        places: Vec::new(alloc),
     };
     let ended = go_on(&mut tracer, hart, most);
     // The trace is within its limit, also where a step was refused.
     prove!(tracer.machine.events().len() <= 65_536);
     let Tracer {
         machine,
-        traced,
+        places,
         ..
     } = tracer;
     match ended {
         Ok(made) => Ok(TracedAlone {
-            run: TracedMachine { machine, traced },
+            run: TracedMachine { machine, places },
             made,
         }),
         Err(stop) => Err(stop),

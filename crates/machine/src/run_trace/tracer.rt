@@ -10,18 +10,18 @@ ghost use Rattle.std.specs.Prelude.{◌≡◌, ◌+◌, ◌^◌, ◌<◌, ◌≤
 ghost use Rattle.std.specs.Vec.{vec_capacity, vec_len};
 
 use crate::rows::Row;
-use crate::run_trace::traced_event::TracedEvent;
+use crate::run_trace::traced_event::EventPlace;
 use crate::{Machine, Place, RunStop, Schedule, Step, StepFault, Stepper, walk};
 use std::alloc::Global;
 use std::marker::Model;
 
-/// A machine that makes the steps of a schedule, and what is told of their events.
+/// A machine that makes the steps of a schedule, and the places of their events.
 #[derive(Drop)]
 pub(crate) struct Tracer {
     pub(crate) machine: Machine,
     /// How many hart steps were made, modulo 2^32.
     pub(crate) made: u32,
-    pub(crate) traced: Vec<TracedEvent>,
+    pub(crate) places: Vec<EventPlace>,
 }
 
 impl Model for Tracer {
@@ -29,17 +29,17 @@ impl Model for Tracer {
 
     ghost Value = { TracerView };
 
-    ghost view = { λ t. record { machine = t.machine; made = t.made; traced = t.traced.items } };
+    ghost view = { λ t. record { machine = t.machine; made = t.made; places = t.places.items } };
 }
 
-/// A machine that has carried out a schedule, and the events that this made.
+/// A machine that has carried out a schedule, and the places of the events that this made, which are the last of its trace.
 #[derive(Drop)]
 pub struct TracedMachine {
     pub machine: Machine,
-    pub traced: Vec<TracedEvent>,
+    pub places: Vec<EventPlace>,
 }
 
-/// Carries out a schedule on a machine, and gives the machine and the events that this makes, in order, each with the number of
+/// Carries out a schedule on a machine, and gives the machine and, for each event that this makes, in order, the number of
 /// its hart step, the schedule's first being hart step 1, and the pc that its hart had before that step. Steps of a hart that
 /// has stopped count, and evictions don't.
 ///
@@ -51,24 +51,24 @@ pub fn trace_run(
     schedule: &Schedule,
 ) -> Result<TracedMachine, RunStop>
     requires { count_of_hart_steps schedule.now < 2 ^ 32 }
-    ensures ok { IfOk result (λ run. Traces machine run.machine (all_steps schedule.now) run.traced.items) }
+    ensures ok { IfOk result (λ run. Traces machine run.machine (all_steps schedule.now) run.places.items) }
     ensures err { IfErr result (StopsTracing machine schedule.now) }
 {
     let mut tracer = Tracer {
         machine,
         made: 0,
-        traced: Vec::new(alloc),
+        places: Vec::new(alloc),
     };
     let ended = walk(&mut tracer, schedule, Place::start());
     // The trace is within its limit, also where a step was refused.
     prove!(tracer.machine.events().len() <= 65_536);
     let Tracer {
         machine,
-        traced,
+        places,
         ..
     } = tracer;
     match ended {
-        Ok(()) => Ok(TracedMachine { machine, traced }),
+        Ok(()) => Ok(TracedMachine { machine, places }),
         Err(halted) => Err(RunStop::from(halted)),
     }
 }
@@ -108,7 +108,7 @@ impl Stepper for Tracer {
 }
 
 impl Tracer {
-    /// Makes the next instruction of a hart, and tells its event if it makes one.
+    /// Makes the next instruction of a hart, and notes the place of its event if it makes one.
     #[inline(always)]
     pub(crate) fn step_hart(&mut self, hart: u32) -> Result<(), StepFault>
         ensures ok { OnOk result (Makes self.old (Step.Hart hart ∷ []) self.new) }
@@ -123,20 +123,17 @@ impl Tracer {
             return Err(fault);
         }
         self.made = self.made.wrapping_add(1);
-        match self.machine.events().get(before) {
-            Some(event) => {
-                let traced = TracedEvent {
-                    step: self.made,
-                    pc,
-                    event: *event,
-                };
-                push_traced(&mut self.traced, traced)
-            }
-            None => Ok(()),
+        if self.machine.events().len() <= before {
+            return Ok(());
         }
+        let place = EventPlace {
+            step: self.made,
+            pc,
+        };
+        push_place(&mut self.places, place)
     }
 
-    /// Makes the next steps of a hart and tells their events, up to the first that traps by itself, is a FENCE.I or is refused, but so
+    /// Makes the next steps of a hart and notes the places of their events, up to the first that traps by itself, is a FENCE.I or is refused, but so
     /// many at most, and says how many they are.
     pub(crate) fn make_rows(&mut self, hart: u32, most: u32) -> u32
         ensures most { result ≤ most }
@@ -154,7 +151,7 @@ impl Tracer {
         made
     }
 
-    /// Makes a row of steps of a hart and tells its event, if there is memory for that.
+    /// Makes a row of steps of a hart and notes the place of its event, if there is memory for that.
     #[inline(always)]
     fn make_row(&mut self, hart: u32, most: u32) -> Row
         ensures most { result.steps ≤ most }
@@ -163,19 +160,17 @@ impl Tracer {
         ensures running { RunsBeforeEach self.old.machine hart result.steps }
         ensures event { IfSome result.event_pc (λ _. 0 < result.steps) }
     {
-        if self.traced.reserve(1).is_err() {
+        if self.places.reserve(1).is_err() {
             return Row::quiet(0);
         }
         let row = self.machine.make_row(hart, most);
         self.made = self.made.wrapping_add(row.steps);
         if let Some(pc) = row.event_pc {
-            let events = self.machine.events();
-            let traced = TracedEvent {
+            let place = EventPlace {
                 step: self.made,
                 pc,
-                event: events[events.len() - 1],
             };
-            push_reserved(&mut self.traced, traced);
+            push_reserved(&mut self.places, place);
         }
         row
     }
@@ -191,22 +186,22 @@ impl Tracer {
     }
 }
 
-fn push_traced(events: &mut Vec<TracedEvent>, traced: TracedEvent) -> Result<(), StepFault>
-    ensures ok { IfOk result (λ _. events.new.items ≡ events.old.items ++ traced ∷ []) }
+fn push_place(places: &mut Vec<EventPlace>, place: EventPlace) -> Result<(), StepFault>
+    ensures ok { IfOk result (λ _. places.new.items ≡ places.old.items ++ place ∷ []) }
     ensures err { IfErr result (λ fault. fault ≡ StepFault.Memory) }
 {
-    match events.push(traced) {
+    match places.push(place) {
         Ok(()) => Ok(()),
         Err(_) => Err(StepFault::Memory),
     }
 }
 
-/// Tells of an event that there is room for.
-fn push_reserved(events: &mut Vec<TracedEvent>, traced: TracedEvent)
-    requires { vec_len events.old < vec_capacity events.old }
-    ensures { events.new.items ≡ events.old.items ++ traced ∷ [] }
+/// Adds a place that there is room for.
+fn push_reserved(places: &mut Vec<EventPlace>, place: EventPlace)
+    requires { vec_len places.old < vec_capacity places.old }
+    ensures { places.new.items ≡ places.old.items ++ place ∷ [] }
 {
-    match events.push(traced) {
+    match places.push(place) {
         Ok(()) => {}
         Err(_) => unreachable!(),
     }

@@ -680,13 +680,14 @@ fn push_reserved(trace: &mut Trace, event: Event)
 
 /// The event of a hart's store at a place of persistent memory.
 fn store_event(hart: u32, offset: u32, width: u32, value: u64) -> Event
+    requires { IsWidth width }
     ensures { result ≡ store_event hart offset width value }
 {
     Event::Store {
         hart,
         line: offset / 64,
-        offset: offset % 64,
-        width,
+        offset: (offset % 64) as u8,
+        width: width as u8,
         value,
     }
 }

@@ -73,8 +73,8 @@ fn persistence_step(event: Event) -> Option<PersistenceStep> {
             ..
         } => Some(PersistenceStep::Store {
             line,
-            offset,
-            width,
+            offset: u32::from(offset),
+            width: u32::from(width),
             value,
         }),
         Event::Clean { hart, line } => Some(PersistenceStep::Clean { hart, line }),

@@ -286,7 +286,7 @@ static RUNS: [(&str, Result<Seen, StepFault>); 4] = [
 ];
 
 /// What is seen of a run, the byte of what a power cut at its end leaves.
-fn seen_of_run(run: &Run) -> Option<Seen> {
+fn seen_of_run(alloc: Global, run: &Run) -> Option<Seen> {
     let hart = run.harts().first()?;
     if run.left().lines() == 0 {
         return None;
@@ -294,14 +294,14 @@ fn seen_of_run(run: &Run) -> Option<Seen> {
     Some(Seen {
         status: hart.status,
         pc: hart.pc,
-        events: run.traced().len(),
+        events: run.traced(alloc).ok()?.len(),
         stored: run.left().read_line(0)[0],
     })
 }
 
 fn recorded(alloc: Global, schedule: &str) -> Option<Result<Seen, StepFault>> {
     match run_of(alloc, None, &[FIRST_RUN], schedule)? {
-        Ok(run) => seen_of_run(&run).map(Ok),
+        Ok(run) => seen_of_run(alloc, &run).map(Ok),
         Err(fault) => Some(Err(fault)),
     }
 }

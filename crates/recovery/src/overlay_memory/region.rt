@@ -9,10 +9,9 @@ ghost use Rattle.line_memory.specs.declared.MediumFault.{MediumFault};
 ghost use Rattle.recovery.specs.Regions.{IsKept, IsRegion, bytes_of};
 
 use crate::overlay::Held;
-use line_memory::{LINE_SIZE, Medium, MediumFault};
+use line_memory::{LINE_SIZE, Medium, MediumFault, padded_bytes};
 use std::alloc::{AllocError, Global};
 use std::marker::Model;
-use word_bits::replace_bytes;
 
 /// The bytes of a region as they were at the start, and copies of those lines that were stored to. Offsets count bytes from the
 /// region's first.
@@ -119,17 +118,4 @@ fn lines_of(alloc: Global, bytes: &[u8]) -> Result<Medium, MediumFault>
         Ok(lines) => Ok(lines),
         Err(_) => Err(MediumFault::Memory),
     }
-}
-
-/// These bytes, and zeros up to a size.
-#[tactic(auto, using(line_memory::proofs::Loops::padded_is))]
-fn padded_bytes(alloc: Global, bytes: &[u8], size: usize) -> Result<Vec<u8>, MediumFault>
-    requires { length bytes.now ≤ size }
-    ensures ok { IfOk result (λ made. made.items ≡ padded bytes.now size) }
-    ensures whole { IfOk result (λ made. length made.items ≡ size) }
-    ensures err { IfErr result (λ fault. fault ≡ MediumFault.Memory) }
-{
-    let mut made = vec![in alloc; 0u8; size]?;
-    replace_bytes(&mut made, 0, bytes);
-    Ok(made)
 }

@@ -6,7 +6,7 @@ use store_trace::{Event, Trace, TraceFault};
 /// An event of a hart. A store writes eight bytes at an offset of a line.
 #[derive(Clone, Copy)]
 pub(crate) enum Made {
-    Store(u32, u32, u64),
+    Store(u32, u8, u64),
     Clean(u32),
     Fence,
     Begin(u64),

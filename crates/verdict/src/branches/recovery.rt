@@ -1,5 +1,6 @@
 //! What is known of recovery.
 
+use crate::branches::numbers::Numbers;
 use crate::branches::question::Question;
 use std::alloc::{AllocError, Global};
 
@@ -84,7 +85,7 @@ pub trait Recovery {
         &self,
         alloc: Global,
         workspace: &mut Self::Workspace,
-        numbers: &[u32],
+        numbers: &Numbers,
         asked: &mut Vec<Question>,
     ) -> Result<Option<Self::Cause>, AllocError>
         requires fits { fits self.now workspace.old }

@@ -62,11 +62,11 @@ impl Run {
     {
         self.numbers.set(entries, at)?;
         self.asked.clear();
-        let judged = recovery.recover(alloc, workspace, self.numbers.as_slice(), &mut self.asked)?;
+        let judged = recovery.recover(alloc, workspace, &self.numbers, &mut self.asked)?;
         let cut = Branched {
             place: at,
             decided: entries[at].decided,
-            numbers: self.numbers.as_slice(),
+            numbers: &self.numbers,
         };
         branch_off(recovery, &self.asked, &mut self.seen, &mut self.found, cut)?;
         Ok(judged)
@@ -81,7 +81,7 @@ struct Branched<'a> {
     /// How many of the questions that recovery asks were decided when the entry was made.
     decided: usize,
     /// The cut, by line, with 0 for a line at its floor.
-    numbers: &'a [u32],
+    numbers: &'a Numbers,
 }
 
 /// Finds what branches off: of each question asked from place `decided` on each new number above the cut's own.
@@ -158,11 +158,11 @@ fn push_siblings<R: Recovery>(
 
 /// The number of a line in a cut that has 0 for a line at its floor.
 #[inline(always)]
-fn number_of(numbers: &[u32], line: u32, floor: u32) -> u32
+fn number_of(numbers: &Numbers, line: u32, floor: u32) -> u32
     requires { line < length numbers.now }
     ensures { result ≡ (if slice_index numbers.now line == 0 then floor else slice_index numbers.now line) }
 {
-    match numbers[line as usize] {
+    match numbers.of(line) {
         0 => floor,
         number => number,
     }

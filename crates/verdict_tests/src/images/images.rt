@@ -585,8 +585,8 @@ fn step_of(event: Event) -> PersistenceStep {
             ..
         } => PersistenceStep::Store {
             line,
-            offset,
-            width,
+            offset: u32::from(offset),
+            width: u32::from(width),
             value,
         },
         Event::Clean { hart, line } => PersistenceStep::Clean { hart, line },

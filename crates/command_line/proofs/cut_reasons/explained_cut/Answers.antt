@@ -7,6 +7,6 @@ returns-clause-told c = record {
   whole = c.in_ok-whole.whole;
   explained = c.in_ok-whole.ensures.ok;
   told = rw c.is_empty.ensures at c.told_of.ensures;
-  traced = c.in_ok-traced.ensures.items ∙ c.traced.ensures.value;
+  traced = c.in_ok-traced.ensures.value;
   ended = rw (c.events.ensures.value, c.trace.ensures.value) refl;
 }

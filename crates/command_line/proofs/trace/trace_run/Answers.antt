@@ -11,7 +11,7 @@ returns g c = record {
     found = Ok tt;
     between = c.open_run.new.files;
     first = record { value = rw c.in_ok-demand_whole.was at c.demand_whole.ensures; untouched = refl };
-    after = record { value = rw (c.deref.ensures.value, c.traced.ensures.value) at c.trace_answer.ensures; untouched = refl };
+    after = record { value = rw c.deref.ensures.value at c.trace_answer.ensures; untouched = refl };
   };
 }
 

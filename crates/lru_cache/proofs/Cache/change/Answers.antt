@@ -1,4 +1,4 @@
-use Rattle.std.proofs.Common.{◌≡◌, List, ℕ, Option, Some, [], unwrap_or, length, ap, arith, ◌∙◌, sym, refl}
+use Rattle.std.proofs.Common.{◌≡◌, List, ℕ, Some, [], unwrap_or, length, ap, arith, ◌∙◌, sym, refl}
 use Rattle.line_memory.proofs.Maps.{length-stored}
 use Rattle.lru_cache.specs.Cache.{CacheView, is_resident}
 use Rattle.lru_cache.proofs.Keeps.{held_change}

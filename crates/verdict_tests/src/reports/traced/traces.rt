@@ -1,7 +1,7 @@
 //! Traced runs.
 
 use crate::reports::sources::{WIDTHS, machine_of};
-use machine::{Schedule, StepFault, TracedEvent, trace_run};
+use machine::{EventPlace, Schedule, StepFault, TracedMachine, trace_run};
 use std::alloc::Global;
 use store_trace::Event;
 
@@ -69,12 +69,12 @@ const OTHER_STORE_OF_A_WORD: Event = Event::Store {
     value: 0x1234_5678,
 };
 
-fn is_so(traced: &TracedEvent, step: u32, pc: u64, event: &Event) -> bool {
-    traced.step == step && traced.pc == pc && traced.event == *event
+fn is_so(place: &EventPlace, event: &Event, wanted: &(u32, u64, Event)) -> bool {
+    place.step == wanted.0 && place.pc == wanted.1 && *event == wanted.2
 }
 
 /// What a run of `WIDTHS` by the text of a schedule is traced to.
-fn traced_of(alloc: Global, text: &str) -> Result<Vec<TracedEvent>, StepFault> {
+fn traced_of(alloc: Global, text: &str) -> Result<TracedMachine, StepFault> {
     let (Some(machine), Ok(schedule)) = (
         machine_of(alloc, WIDTHS, 2),
         Schedule::read(alloc, text.as_bytes()),
@@ -82,19 +82,26 @@ fn traced_of(alloc: Global, text: &str) -> Result<Vec<TracedEvent>, StepFault> {
         return Err(StepFault::Memory);
     };
     match trace_run(alloc, machine, &schedule) {
-        Ok(run) => Ok(run.traced),
+        Ok(run) => Ok(run),
         Err(stop) => Err(stop.fault),
     }
 }
 
+fn are_so(places: &[EventPlace], events: &[Event]) -> bool {
+    if places.len() != EVENTS.len() || events.len() != EVENTS.len() {
+        return false;
+    }
+    for at in 0..EVENTS.len() {
+        if !is_so(&places[at], &events[at], &EVENTS[at]) {
+            return false;
+        }
+    }
+    true
+}
+
 fn are_all_so(alloc: Global) -> bool {
     match traced_of(alloc, SCHEDULE) {
-        Ok(traced) => {
-            traced.len() == EVENTS.len()
-                && traced.iter().zip(EVENTS.iter()).all(|(traced, (step, pc, event))| is_so(
-                    traced, *step, *pc, event,
-                ))
-        }
+        Ok(run) => are_so(&run.places, run.machine.events()),
         Err(_) => false,
     }
 }

@@ -4,4 +4,5 @@ use Rattle.index_list.proofs.ring.Ring.new.Goals as goal
 
 pub invariant_of-result : goal.invariant_of-result
 invariant_of-result c =
-    closed _ _ _ [] (empty _ _ _ c.in_ok-next.ensures.len c.in_ok-prev.ensures.len c.in_ok-next.ensures.own c.in_ok-prev.ensures.own)
+    let numbers = c.requires in
+    closed _ _ _ [] (rw (c.in_ok-next.ensures.items, c.in_ok-prev.ensures.items) (empty _ _ _ numbers.len numbers.len numbers.own numbers.own))

@@ -33,7 +33,7 @@ returns-in-Ok-finish_alone-clause-ok c =
     let items = ap (λ (r : RecordedView). r.items) kept in
     let capacity = c.in-Ok.ensures.capacity ∙ sym (ap (λ (r : RecordedView). r.capacity) kept) in
     let start = c.in-Ok.ensures.lines ∙ sym (ap (λ (r : RecordedView). r.start) kept) in
-    records_all _ c.in-Ok.machine c.in-Ok-trace_alone.traced.run.machine c.in-Ok-trace_alone.traced.run.traced.items c.in-Ok-finish_alone.recorded
+    records_all _ c.in-Ok.machine c.in-Ok-trace_alone.traced.run.machine c.in-Ok-trace_alone.traced.run.places.items c.in-Ok-finish_alone.recorded
     c.in-Ok.ensures.ok refl (traces_alone _ _ _ _ _ items c.in-Ok-trace_alone.ensures.ok) start capacity
     (ap (λ (r : RecordedView). r.trace) kept) (ap (λ (r : RecordedView). r.harts) kept) (ap (λ (r : RecordedView). r.left) kept)
     (ap (λ (r : RecordedView). r.steps) kept)

@@ -7,21 +7,21 @@ use Rattle.schedule_states.proofs.memory_lists.MemoryLists.number_of.Goals as go
 
 pub invariant_of-self : goal.invariant_of-self
 invariant_of-self c =
-    let more : length (lists_in c.self.inside.lists c.self.inside.further) < length (lists_in c.number_among-number.new.lists c.number_among-number.new.further) =
-    omega (arith, c.if-count_of-known.true, c.count_of-known.ensures, c.count_of.ensures) in
-    let sum : sum_by length (lists_in c.number_among-number.new.lists c.number_among-number.new.further)
-    ≡ sum_by length (lists_in c.self.inside.lists c.self.inside.further) + length c.args.list.items =
-    sum_grown length (lists_in c.self.inside.lists c.self.inside.further) (lists_in c.number_among-number.new.lists c.number_among-number.new.further) c.args.list.items
-    c.number_among-number.ensures.appended more in
+    let more : length (lists_in c.self.inside.lists) < length (lists_in c.number_of-number.new.self) =
+    omega (arith, c.if-count-known.true, c.count-known.ensures, c.count.ensures) in
+    let sum : sum_by length (lists_in c.number_of-number.new.self)
+    ≡ sum_by length (lists_in c.self.inside.lists) + length c.args.list.items =
+    sum_grown length (lists_in c.self.inside.lists) (lists_in c.number_of-number.new.self) c.args.list.items
+    c.number_of-number.ensures.appended more in
     let same : c.in_ok-lines.lines ≡ c.self.inside.lines + length c.args.list.items = search rules in
     same ∙ ap (λ (n : _). n + length c.args.list.items) c.self.invariant ∙ sym sum
 
-pub returns-then-count_of-known-clause-kept : goal.returns-then-count_of-known-clause-kept
-returns-then-count_of-known-clause-kept c =
-    rw (sym c.self.view_is) (kept_appended (lists_in c.self.inside.lists c.self.inside.further) (lists_in c.number_among-number.new.lists c.number_among-number.new.further) c.args.list.items
-    c.number_among-number.ensures.appended)
+pub returns-then-count-known-clause-kept : goal.returns-then-count-known-clause-kept
+returns-then-count-known-clause-kept c =
+    rw (sym c.self.view_is) (kept_appended (lists_in c.self.inside.lists) (lists_in c.number_of-number.new.self) c.args.list.items
+    c.number_of-number.ensures.appended)
 
-pub returns-else-count_of-known-clause-kept : goal.returns-else-count_of-known-clause-kept
-returns-else-count_of-known-clause-kept c =
-    rw (sym c.self.view_is) (kept_appended (lists_in c.self.inside.lists c.self.inside.further) (lists_in c.number_among-number.new.lists c.number_among-number.new.further) c.args.list.items
-    c.number_among-number.ensures.appended)
+pub returns-else-count-known-clause-kept : goal.returns-else-count-known-clause-kept
+returns-else-count-known-clause-kept c =
+    rw (sym c.self.view_is) (kept_appended (lists_in c.self.inside.lists) (lists_in c.number_of-number.new.self) c.args.list.items
+    c.number_of-number.ensures.appended)

@@ -1,7 +1,8 @@
-use Rattle.std.proofs.Common.{ℕ, List, length, refl, sym, ap, ◌∙◌, inr}
+use Rattle.std.proofs.Common.{ℕ, List, length, refl, ap, ◌∙◌, inr}
 use Rattle.machine.specs.declared.fault.RunStop.{RunStop}
 use Rattle.machine.proofs.Numbering.{at_step, each_event, fails_before, memory_stops, stops_recording}
 use Rattle.machine.proofs.Kept.{run_kept, setup_of_kept}
+use Rattle.machine.specs.Traced.{with_places}
 use Rattle.machine.proofs.recording.run.Run.record.Goals as goal
 
 pub returns-in-Err-clause-err : goal.returns-in-Err-clause-err
@@ -34,8 +35,8 @@ returns-in-Err-finish-clause-err c = inr (
 
 pub invariant_of-result : goal.invariant_of-result
 invariant_of-result c =
-    run_kept c.args.setup c.args.schedule.now c.in-Ok.machine c.in-Ok-trace_run.run'.machine c.in-Ok-trace_run.run'.traced.items
-    c.in-Ok-finish.traced.items c.in-Ok-finish.recorded (record {
+    run_kept c.args.setup c.args.schedule.now c.in-Ok.machine c.in-Ok-trace_run.run'.machine c.in-Ok-trace_run.run'.places.items
+    c.in-Ok-finish.places.items c.in-Ok-finish.recorded (record {
       within = c.in-Ok.ensures.within;
       few_steps = c.requires;
       stands = c.in-Ok.ensures.ok;
@@ -43,15 +44,15 @@ invariant_of-result c =
       lines = c.in-Ok.ensures.lines;
       capacity = c.in-Ok.ensures.capacity;
       traces = c.in-Ok-trace_run.ensures.ok;
-    }) c.in-Ok-finish.ensures.ok c.in-Ok-finish.ensures.traced
+    }) c.in-Ok-finish.ensures.ok c.in-Ok-finish.ensures.places
 
 pub returns-in-Ok-finish-clause-run : goal.returns-in-Ok-finish-clause-run
 returns-in-Ok-finish-clause-run c = (invariant_of-result c).0
 
 pub returns-in-Ok-finish-clause-setup : goal.returns-in-Ok-finish-clause-setup
 returns-in-Ok-finish-clause-setup c =
-    setup_of_kept c.args.setup c.args.schedule.now c.in-Ok.machine c.in-Ok-trace_run.run'.machine c.in-Ok-trace_run.run'.traced.items
-    c.in-Ok-finish.traced.items c.in-Ok-finish.recorded (record {
+    setup_of_kept c.args.setup c.args.schedule.now c.in-Ok.machine c.in-Ok-trace_run.run'.machine c.in-Ok-trace_run.run'.places.items
+    (with_places c.in-Ok-finish.places.items c.in-Ok-finish.recorded.trace) c.in-Ok-finish.recorded (record {
       within = c.in-Ok.ensures.within;
       few_steps = c.requires;
       stands = c.in-Ok.ensures.ok;

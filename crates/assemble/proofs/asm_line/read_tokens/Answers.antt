@@ -1,5 +1,5 @@
 use Rattle.assemble.proofs.LineWords.{line_of_kinds}
-use Rattle.assemble.proofs.asm_line.read_line.Goals as goal
+use Rattle.assemble.proofs.asm_line.read_tokens.Goals as goal
 
 pub returns-clause-ok : goal.returns-clause-ok
 returns-clause-ok c = rw (line_of_kinds _ _ c.in_ok-lexemes.ensures.found, ← c.deref.ensures.value) c.line_at.ensures.ok
