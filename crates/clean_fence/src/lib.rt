@@ -88,6 +88,7 @@ impl PmCache {
 
     /// Writes the low `width` bytes of `value` at an address, as `load` reads them. The line is in the cache afterwards, and
     /// dirty until it is written back.
+    #[inline(always)]
     pub fn store(&mut self, at: u32, width: u32, value: u64)
         requires width { IsWidth width }
         requires aligned { at % width ≡ 0 }

@@ -12,14 +12,14 @@ use nova_log::{FixedLines, KeptVolume, LineSource, VolumeFault, recover_again};
 use std::alloc::{AllocError, Global};
 use std::marker::Model;
 use std::mem;
-use verdict::{CutImage, Images, Numbers};
+use verdict::{CutImage, Images};
 
 /// The volume of the image of a cut, as recovery of the whole image gives it: it is that which is kept then. The cut is given by line,
 /// with 0 for a line at its lowest number. Adds the lines that recovery asks.
 pub fn recover_cut<I: Images>(
     alloc: Global,
     images: &I,
-    numbers: &Numbers,
+    numbers: &[u32],
     asked: &mut Vec<u32>,
     kept: &mut KeptVolume,
 ) -> Result<(), VolumeFault>

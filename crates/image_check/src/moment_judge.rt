@@ -29,8 +29,9 @@ use std::thread::Threads;
 use store_trace::{Event, Trace};
 use verdict::{MomentCuts, MomentVerdict, Moments, Opener, is_unseen, open_moment};
 
-/// The most moments that are worth one worker alone: a further one takes some time to start.
-const MOMENTS_OF_ONE: u32 = 8;
+/// The most moments that are worth one worker alone: most take less time than a further worker takes to start. The branches of one
+/// that has many are opened in threads all the same.
+const MOMENTS_OF_ONE: u32 = 64;
 
 /// A further worker is worth so many moments.
 const MOMENTS_OF_MORE: u32 = 128;

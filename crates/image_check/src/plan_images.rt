@@ -17,7 +17,7 @@ use crate::legal::Outcomes;
 use nova_log::{KeptVolume, VolumeFault};
 use plan::Plan;
 use std::alloc::{AllocError, Global};
-use verdict::{Images, Numbers, Question, Recovery};
+use verdict::{Images, Question, Recovery};
 
 /// What runs of recovery work in: the volume that is kept from one to the next, and the lines that the last one asked.
 #[derive(Drop)]
@@ -140,7 +140,7 @@ impl<I: Images> Recovery for PlanImages<'_, I> {
         &self,
         alloc: Global,
         workspace: &mut Workspace,
-        numbers: &Numbers,
+        numbers: &[u32],
         asked: &mut Vec<Question>,
     ) -> Result<Option<Cause>, AllocError> {
         match recover_asking(alloc, self.images, numbers, asked, workspace) {
@@ -170,7 +170,7 @@ impl<I: Images> Recovery for PlanImages<'_, I> {
 fn recover_asking<I: Images>(
     alloc: Global,
     images: &I,
-    numbers: &Numbers,
+    numbers: &[u32],
     asked: &mut Vec<Question>,
     workspace: &mut Workspace,
 ) -> Result<(), VolumeFault>

@@ -1,5 +1,5 @@
 -- How many lines can be resident: no more than a list has that names each of them.
-use Rattle.std.proofs.Common.{◌≡◌, ℕ, suc, ◌+◌, ◌<◌, ◌≤◌, true, false, eqb, None, List, [], ◌∷◌, length, refl, inl, inr, ◌∙◌, arith, slice_index_or, sum_by}
+use Rattle.std.proofs.Common.{◌≡◌, ℕ, suc, ◌+◌, ◌<◌, ◌≤◌, true, false, eqb, None, List, [], ◌∷◌, length, nat_lt, zero, refl, inl, inr, ◌∙◌, arith, slice_index_or, sum_by}
 use Rattle.std.proofs.lemmas.Bool.{lt-ltb, cases_Bool}
 use Rattle.std.proofs.lemmas.Bool.Decides.{nat_tests}
 use Rattle.std.proofs.lemmas.List.Sums.{sum_by-cons}
@@ -13,7 +13,7 @@ abbrev rest_of : List ℕ → List ℕ → List ℕ
 rest_of [] used = used
 rest_of (x ∷ xs) used = rest_of xs (without x used)
 
-has_other : (x v : ℕ) (l : List ℕ) → eqb v x ≡ false → has v (without x l) ≡ has v l
+pub has_other : (x v : ℕ) (l : List ℕ) → eqb v x ≡ false → has v (without x l) ≡ has v l
 has_other x v [] e = refl
 has_other x v (y ∷ ys) e = grind (arith, nat_tests, has_other x v ys e)
 
@@ -28,6 +28,19 @@ length-rest_of (x ∷ xs) used d each =
     let first : has x used ≡ true = each x (grind (arith, nat_tests)) in
     let rest = length-rest_of xs (without x used) d.1 (λ v h. grind (arith, nat_tests, d.0, each v, has_other x v used)) in
     omega (arith, length-without x used first, rest)
+
+-- every number below n
+abbrev pub numbers : ℕ → List ℕ
+numbers zero = []
+numbers (suc n) = n ∷ numbers n
+
+pub has-numbers : (v n : ℕ) → has v (numbers n) ≡ nat_lt v n
+has-numbers v zero = grind (arith, nat_tests)
+has-numbers v (suc n) = grind (arith, nat_tests, has-numbers v n)
+
+pub length-numbers : (n : ℕ) → length (numbers n) ≡ n
+length-numbers zero = refl
+length-numbers (suc n) = omega (arith, length-numbers n)
 
 -- sets that have no line in common
 count_within : (sets : List (List ℕ)) (used : List ℕ) → ((k : ℕ) → IsDistinct (slice_index_or sets k [])) →
@@ -51,6 +64,14 @@ module _ (c : CacheView) (s : IsCache c) where
       count_within c.orders.recency used s.ordered.recent_once
       (λ j k v a b. grind (arith, nat_tests, s.recent v j, s.recent v k))
       (λ k v h. grind (arith, nat_tests, s.recent v k, each v))
+
+  -- where a line isn't resident, fewer are than there are lines
+  pub resident_count-lt : (n line : ℕ) → ((v : ℕ) → is_resident c v ≡ true → v < n) → line < n → is_resident c line ≡ false → resident_count c.orders + 1 ≤ n
+  resident_count-lt n line below low absent =
+      let there : has line (numbers n) ≡ true = grind (arith, nat_tests, has-numbers line n) in
+      let fewer : resident_count c.orders ≤ length (without line (numbers n)) =
+      resident_count-le (without line (numbers n)) (λ v h. grind (arith, nat_tests, below v, has-numbers v n, has_other line v (numbers n))) in
+      omega (arith, length-without line (numbers n) there, length-numbers n)
 
   -- a cache that is large enough for all lines in use evicts none
   pub no_victim : (used : List ℕ) (line : ℕ) → length used ≤ c.capacity →

@@ -230,7 +230,7 @@ some_resident c n line h there =
     omega (arith, h.counted, count_dropped c.orders line h.sound.ordered (in_set c h.sound line ∙ there))
 
 -- nothing is resident in a new cache
-absent_at : {A : Type 0} (d : A) (n i : ℕ) → slice_index_or (replicate n d) i d ≡ d
+pub absent_at : {A : Type 0} (d : A) (n i : ℕ) → slice_index_or (replicate n d) i d ≡ d
 absent_at d zero i = refl
 absent_at d (suc n) zero = refl
 absent_at d (suc n) (suc i) = absent_at d n i

@@ -1,6 +1,12 @@
 pub mod Splits
 pub mod Places
+pub mod Tables
+pub mod Ordered
+pub mod Named
 pub mod Keeps
 pub mod Shows
 pub mod Victims
 pub mod Counts
+pub mod InLines
+pub mod Stays
+pub mod Told

@@ -2,7 +2,7 @@
 use Rattle.std.proofs.Common.{◌≡◌, ℕ, zero, suc, ◌<◌, Bool, true, false, cond, eqb, Option, Some, None, is_some, unwrap_or, List, [], ◌∷◌, length, replicate, refl, sym, ap, ◌∙◌, arith, slice_index_or, slice_set}
 use Rattle.std.proofs.lemmas.Bool.Decides.{nat_tests}
 use Rattle.std.proofs.lemmas.List.{length-set, get_or-set_same, set-get_or}
-use Rattle.index_list.specs.Lists.{first}
+use Rattle.index_list.specs.Lists.{first, without}
 use Rattle.index_list.proofs.Members.{has-without}
 use Rattle.line_memory.specs.Lines.{line_at, AreLines, IsMedium}
 use Rattle.lru_cache.specs.Cache.{CacheView, IsCache, IsOver, copied_over, shown, is_resident, is_dirty, victim, after_forced, after_load, after_write_back, after_drop, after_use, after_change, written_back, empty_cache}
@@ -163,21 +163,17 @@ module _ (c : CacheView) (s : IsCache c) (lines : List (List ℕ)) (o : IsOver c
   pub nothing_written_to : is_dirty c line ≡ false → written_back line c lines ≡ lines
   nothing_written_to dry = put_same [] (line_at (shown c lines) line) lines line (sym (o.clean line dry))
 
--- the bytes that are read
-pub shown_some : (v now : CacheView) → v ≡ now → IsCache v → (lines : List (List ℕ)) → IsOver now lines → (i : ℕ) → i < length lines →
-    (r : Option (List ℕ)) (bytes : List ℕ) → r ≡ slice_index_or v.copies i r → r ≡ Some bytes → bytes ≡ line_at (shown now lines) i
-shown_some v now e s lines o i low r bytes read is =
-    let many : length lines ≡ v.orders.lines = rw e o.count in
-    let at : slice_index_or v.copies i None ≡ Some bytes = default v.copies i r read (omega (arith, s.copied)) ∙ is in
-    rw (← e, at_shown v.copies lines i low, at) refl
-  where
-    default : (copies : List (Option (List ℕ))) (i : ℕ) (r : Option (List ℕ)) → r ≡ slice_index_or copies i r → i < length copies → slice_index_or copies i None ≡ r
-    default [] i r h k = absurd (omega arith)
-    default (x ∷ xs) zero r h k = sym h
-    default (x ∷ xs) (suc i) r h k = default xs i r h (omega arith)
+-- the bytes of a copy
+pub shown_copy : (copies : List (Option (List ℕ))) (lines : List (List ℕ)) (i : ℕ) (bytes : List ℕ) → i < length lines →
+    slice_index_or copies i None ≡ Some bytes → bytes ≡ line_at (copied_over copies lines) i
+shown_copy copies lines i bytes low is = rw (at_shown copies lines i low, is) refl
 
 pub used_resident : (c : CacheView) (line : ℕ) (bytes : List ℕ) → line < length c.copies → is_resident (after_use line bytes c) line ≡ true
 used_resident c line bytes low = rw (get_or-set_same c.copies line (Some bytes) None low) refl
+
+pub used_latest : (c : CacheView) (line : ℕ) (bytes : List ℕ) → IsCache c → first (recent_in (after_use line bytes c).orders (set_of line)) ≡ Some line
+used_latest c line bytes s =
+    rw (get_or-set_same c.orders.recency (set_of line) (line ∷ without line (recent_in c.orders (set_of line))) [] (omega (arith, s.ordered.sets))) refl
 
 pub over_empty : (capacity lines : ℕ) (medium : List (List ℕ)) → IsMedium medium → length medium ≡ lines → IsOver (empty_cache capacity lines) medium
 over_empty capacity lines medium m e = record {

@@ -8,7 +8,7 @@ use Rattle.index_list.proofs.Members.{list_steps}
 use Rattle.lru_cache.specs.Order.{LineOrders, IsOrdered, empty_orders, order_after_use, order_after_write_back, recent_in, set_of}
 use Rattle.lru_cache.specs.Split.{orders_in}
 
-same_orders : (n : ℕ) (r s : List (List ℕ)) (d e : List ℕ) (m o : List (List ℕ)) → r ≡ s → d ≡ e → m ≡ o →
+pub same_orders : (n : ℕ) (r s : List (List ℕ)) (d e : List ℕ) (m o : List (List ℕ)) → r ≡ s → d ≡ e → m ≡ o →
     (let one : LineOrders = record { lines = n; recency = r; dirty = d; marked = m } in
     let other : LineOrders = record { lines = n; recency = s; dirty = e; marked = o } in one ≡ other)
 same_orders n r s d e m o p q t = cc

@@ -33,7 +33,7 @@ none_last : (l : List ℕ) → last l ≡ None → length l ≡ 0
 none_last [] h = refl
 none_last (x ∷ xs) h = cc
 
-none_both : (o p : Option ℕ) → option_or o p ≡ None → (o ≡ None) × (p ≡ None)
+pub none_both : (o p : Option ℕ) → option_or o p ≡ None → (o ≡ None) × (p ≡ None)
 none_both None p h = (refl, h)
 none_both (Some x) p h = cc
 
@@ -44,7 +44,7 @@ none_oldest (l ∷ ls) h =
     omega (arith, sum_by-cons length l ls, none_last l both.0, none_oldest ls both.1)
 
 -- what holds of each line of a set holds of the one that is named
-of_either : (p : ℕ → Bool) (o q : Option ℕ) → IfSome o (λ v. p v ≡ true) → IfSome q (λ v. p v ≡ true) → IfSome (option_or o q) (λ v. p v ≡ true)
+pub of_either : (p : ℕ → Bool) (o q : Option ℕ) → IfSome o (λ v. p v ≡ true) → IfSome q (λ v. p v ≡ true) → IfSome (option_or o q) (λ v. p v ≡ true)
 of_either p None q h k = k
 of_either p (Some x) q h k = h
 

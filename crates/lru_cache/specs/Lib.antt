@@ -1,3 +1,5 @@
 pub mod Order
 pub mod Cache
 pub mod Split
+pub mod SlotMap
+pub mod InSlots

@@ -3,8 +3,9 @@
 //! The medium is lent to each call, and it is the same one each time. Addresses count its bytes from the first line's start.
 #![tactic(auto)]
 
-ghost use Rattle.std.specs.Prelude.{◌≡◌, ℕ, ◌<◌, ◌≤◌, ◌+◌, ◌*◌, ◌/◌, ◌%◌, List, Some, None, Option, true, false, length, replicate, slice_index, slice_index_or, slice_set, IfOk, IfErr, IfSome, IfNone, is_some};
-ghost use Rattle.index_list.specs.Lists.{first, has};
+ghost use Rattle.std.specs.Prelude.{◌≡◌, ◌↔◌, ℕ, ◌<◌, ◌≤◌, ◌+◌, ◌*◌, ◌/◌, ◌%◌, List, Some, None, Option, true, false, length, replicate, slice_index, slice_index_or, slice_set, IfOk, IfErr, IfSome, IfNone};
+ghost use Rattle.std.specs.Option.{option_or};
+ghost use Rattle.index_list.specs.Lists.{first, last, has};
 ghost use Rattle.word_bits.specs.Bytes.{loaded, stored};
 ghost use Rattle.line_memory.specs.Lines.{line_at, line_bytes, IsMedium};
 ghost use Rattle.line_memory.specs.Memory.{IsWidth, loaded_from, stored_to};
@@ -13,10 +14,12 @@ ghost use Rattle.lru_cache.specs.Cache.{CacheView, IsCache, IsOver, shown, is_re
 
 use line_memory::{LINE_SIZE, Medium, MediumFault, load_bytes, store_bytes};
 use orders::{Orders, SETS};
+use slots::Slots;
 use std::alloc::{AllocError, Global};
 use std::marker::Model;
 
 mod orders;
+mod slots;
 
 /// A cache of some lines of a medium. A resident line has a copy here, which loads and stores use in the place of the
 /// medium's bytes; it is dirty from its first store until it is written back.
@@ -30,19 +33,22 @@ mod orders;
 pub struct Cache {
     capacity: u32,
     resident: u32,
-    copies: Vec<Option<[u8; LINE_SIZE]>>,
+    /// Which slot a resident line has. Of a slot are kept the copy of its line, whether the line leaves, and its orders.
+    slots: Slots,
+    copies: Vec<[u8; LINE_SIZE]>,
     leaving: Vec<bool>,
     orders: Orders,
 }
 
 impl Model for Cache {
-    ghost use Rattle.lru_cache.specs.Cache.{CacheView, HasResident};
+    ghost use Rattle.lru_cache.specs.Cache.{CacheView};
+    ghost use Rattle.lru_cache.specs.InSlots.{cache_of, IsInSlots};
 
     ghost Value = { CacheView };
 
-    ghost view = { λ c. record { capacity = c.capacity; copies = c.copies.items; leaving = c.leaving.items; orders = c.orders } };
+    ghost view = { λ c. cache_of c.capacity c.slots c.copies.items c.leaving.items c.orders };
 
-    ghost invariant = { λ c. HasResident (record { capacity = c.capacity; copies = c.copies.items; leaving = c.leaving.items; orders = c.orders }) c.resident };
+    ghost invariant = { λ c. IsInSlots c.capacity c.resident c.slots c.copies.items c.leaving.items c.orders };
 }
 
 impl Cache {
@@ -54,12 +60,15 @@ impl Cache {
         ensures over { IfOk result (λ cache. (medium : List (List ℕ)) → IsMedium medium → length medium ≡ lines → IsOver cache medium) }
         ensures err { IfErr result (λ fault. fault ≡ MediumFault.Memory) }
     {
-        let orders = Orders::new(alloc, lines)?;
-        let copies = no_copies(alloc, lines)?;
-        let leaving = no_flags(alloc, lines)?;
+        let count = capacity.min(lines);
+        let slots = Slots::new(alloc, count, lines)?;
+        let orders = Orders::new(alloc, count)?;
+        let copies = empty_copies(alloc, count)?;
+        let leaving = no_flags(alloc, count)?;
         Ok(Cache {
             capacity,
             resident: 0,
+            slots,
             copies,
             leaving,
             orders,
@@ -87,7 +96,7 @@ impl Cache {
         let line = at / LINE_SIZE as u32;
         self.make_latest(medium, line);
         load_bytes(
-            self.shown_line(medium, line),
+            self.latest_copy(line),
             at as usize % LINE_SIZE,
             width as usize,
         )
@@ -95,6 +104,7 @@ impl Cache {
 
     /// Writes the low `width` bytes of `value` at an address, into the copy of its line: that is dirty afterwards, and the
     /// most recently used of its set.
+    #[inline(always)]
     pub fn store(&mut self, medium: &mut Medium, at: u32, width: u32, value: u64)
         requires over { IsOver self.old medium.old }
         requires width { IsWidth width }
@@ -183,7 +193,10 @@ impl Cache {
         ensures value { result ≡ is_dirty self.now line }
         ensures sound { IsCache self.now }
     {
-        self.orders.is_dirty(line)
+        match self.slots.find(line) {
+            Some(slot) => self.orders.is_dirty(slot),
+            None => false,
+        }
     }
 
     /// Whether a line has a copy here.
@@ -193,7 +206,7 @@ impl Cache {
         ensures value { result ≡ is_resident self.now line }
         ensures sound { IsCache self.now }
     {
-        self.copies[line as usize].is_some()
+        self.slots.find(line).is_some()
     }
 
     /// Marks a dirty line in list `k`, one of eight, until it is written back. A line that is marked there stays in its place.
@@ -205,7 +218,8 @@ impl Cache {
         ensures over { (medium : List (List ℕ)) → IsOver self.old medium → IsOver self.new medium }
         ensures shown { (medium : List (List ℕ)) → shown self.new medium ≡ shown self.old medium }
     {
-        self.orders.mark(k, line);
+        let slot = self.slots.slot_of(line);
+        self.orders.mark(k, slot);
     }
 
     /// Whether a line is marked in list `k`.
@@ -215,7 +229,10 @@ impl Cache {
         ensures value { result ≡ is_marked self.now k line }
         ensures sound { IsCache self.now }
     {
-        self.orders.is_marked(k, line)
+        match self.slots.find(line) {
+            Some(slot) => self.orders.is_marked(k, slot),
+            None => false,
+        }
     }
 
     /// The line that has been marked in list `k` for longest; `None` where none is.
@@ -226,7 +243,10 @@ impl Cache {
         ensures there { IfSome result (λ line. line < self.now.orders.lines) }
         ensures sound { IsCache self.now }
     {
-        self.orders.first_marked(k)
+        match self.orders.first_marked(k) {
+            Some(slot) => Some(self.slots.line_of(slot)),
+            None => None,
+        }
     }
 
     /// Notes that a dirty line is to leave with its write-back, which its caller makes. The note lasts until then.
@@ -237,8 +257,8 @@ impl Cache {
         ensures over { (medium : List (List ℕ)) → IsOver self.old medium → IsOver self.new medium }
         ensures shown { (medium : List (List ℕ)) → shown self.new medium ≡ shown self.old medium }
     {
-        let leaving = &mut self.leaving;
-        leaving[line as usize] = true;
+        let slot = self.slots.slot_of(line);
+        self.leaving[slot as usize] = true;
     }
 
     /// Whether that is noted of a line.
@@ -247,7 +267,10 @@ impl Cache {
         ensures value { result ≡ is_leaving self.now line }
         ensures sound { IsCache self.now }
     {
-        self.leaving[line as usize]
+        match self.slots.find(line) {
+            Some(slot) => self.leaving[slot as usize],
+            None => false,
+        }
     }
 
     /// Makes a line resident, and the most recently used of its set, and is done at once where it is that already.
@@ -255,6 +278,7 @@ impl Cache {
     fn make_latest(&mut self, medium: &mut Medium, line: u32)
         requires over { IsOver self.old medium.old }
         requires there { line < length medium.old }
+        ensures latest { first (recent_in self.new.orders (set_of line)) ≡ Some line }
         ensures resident { is_resident self.new line ≡ true }
         ensures shown { shown self.new medium.new ≡ shown self.old medium.old }
         ensures changed { self.new ≡ after_load line self.old medium.old }
@@ -262,8 +286,20 @@ impl Cache {
         ensures sound { IsCache self.new }
         ensures over { IsOver self.new medium.new }
     {
-        if !self.orders.is_latest(line) {
+        if !self.is_latest(line) {
             self.bring_in(medium, line);
+        }
+    }
+
+    /// Whether a line is the most recently used of its set. It stands in the set's first slot then.
+    #[inline(always)]
+    fn is_latest(&self, line: u32) -> bool
+        ensures latest { (result ≡ true) ↔ (first (recent_in self.now.orders (set_of line)) ≡ Some line) }
+        ensures sound { IsCache self.now }
+    {
+        match self.orders.latest(line % SETS) {
+            Some(slot) => self.slots.line_of(slot) == line,
+            None => false,
         }
     }
 
@@ -271,6 +307,7 @@ impl Cache {
     fn bring_in(&mut self, medium: &mut Medium, line: u32)
         requires over { IsOver self.old medium.old }
         requires there { line < length medium.old }
+        ensures latest { first (recent_in self.new.orders (set_of line)) ≡ Some line }
         ensures resident { is_resident self.new line ≡ true }
         ensures shown { shown self.new medium.new ≡ shown self.old medium.old }
         ensures changed { self.new ≡ after_load line self.old medium.old }
@@ -312,9 +349,9 @@ impl Cache {
         if self.is_resident(line) || self.resident < self.capacity {
             return None;
         }
-        match self.orders.oldest(line % SETS) {
-            Some(victim) => Some(victim),
-            None => lowest_oldest(&self.orders),
+        match oldest_slot(&self.orders, line % SETS) {
+            Some(slot) => Some(self.slots.line_of(slot)),
+            None => None,
         }
     }
 
@@ -323,6 +360,7 @@ impl Cache {
         requires over { IsOver self.old medium.now }
         requires there { line < length medium.now }
         requires room { is_resident self.old line ≡ false → resident_count self.old.orders + 1 ≤ self.old.capacity }
+        ensures latest { first (recent_in self.new.orders (set_of line)) ≡ Some line }
         ensures resident { is_resident self.new line ≡ true }
         ensures shown { shown self.new medium.now ≡ shown self.old medium.now }
         ensures changed { self.new ≡ after_use line (line_at (shown self.old medium.now) line) self.old }
@@ -345,10 +383,21 @@ impl Cache {
         ensures whole { length result.now ≡ 64 }
         ensures sound { IsCache self.now }
     {
-        match &self.copies[line as usize] {
-            Some(copy) => copy,
+        match self.slots.find(line) {
+            Some(slot) => &self.copies[slot as usize],
             None => medium.read_line(line),
         }
+    }
+
+    /// The copy of the line that is the most recently used of its set. No look by the line's number is needed.
+    #[inline(always)]
+    fn latest_copy(&self, line: u32) -> &[u8; LINE_SIZE]
+        requires { first (recent_in self.now.orders (set_of line)) ≡ Some line }
+        ensures value { slice_index_or self.now.copies line None ≡ Some result.now }
+        ensures whole { length result.now ≡ 64 }
+    {
+        let slot = self.orders.latest_of(line % SETS);
+        &self.copies[slot as usize]
     }
 
     /// Makes a resident line the most recently used of its set.
@@ -358,7 +407,8 @@ impl Cache {
             self.new ≡ after_use line bytes self.old }
         ensures sound { IsCache self.new }
     {
-        self.orders.note_use(line);
+        let slot = self.slots.slot_of(line);
+        self.orders.note_use(line % SETS, slot);
     }
 
     /// Gives a line that isn't resident a copy. There is room for it.
@@ -370,30 +420,34 @@ impl Cache {
         ensures changed { self.new ≡ after_use line bytes self.old }
         ensures sound { IsCache self.new }
     {
-        let copies = &mut self.copies;
-        copies[line as usize] = Some(bytes);
-        self.orders.note_use(line);
+        let slot = self.slots.take(line);
+        self.copies[slot as usize] = bytes;
+        // the line that had the slot before may have left it set
+        self.leaving[slot as usize] = false;
+        self.orders.note_use(line % SETS, slot);
         self.resident += 1;
     }
 
-    /// Writes the low `width` bytes of `value` from a place on in the copy of a resident line, which is dirty then.
+    /// Writes the low `width` bytes of `value` from a place on in the copy of the most recently used line of its set,
+    /// which is dirty then.
     fn change(&mut self, line: u32, at: usize, width: usize, value: u64)
-        requires resident { is_resident self.old line ≡ true }
+        requires latest { first (recent_in self.old.orders (set_of line)) ≡ Some line }
         requires fits { at + width ≤ 64 }
         requires few { width ≤ 8 }
         ensures changed { (bytes : List ℕ) → slice_index_or self.old.copies line None ≡ Some bytes →
             self.new ≡ after_change line (stored bytes at width value) self.old }
         ensures sound { IsCache self.new }
     {
-        let copies = &mut self.copies;
-        store_in_copy(&mut copies[line as usize], at, width, value);
-        self.orders.note_store(line);
+        let slot = self.orders.latest_of(line % SETS);
+        store_bytes(&mut self.copies[slot as usize], at, width, value);
+        self.orders.note_store(slot);
     }
 
     /// Writes a dirty line back.
     fn write_dirty(&mut self, medium: &mut Medium, line: u32)
         requires over { IsOver self.old medium.old }
         requires there { line < length medium.old }
+        requires dirty { is_dirty self.old line ≡ true }
         ensures shown { shown self.new medium.new ≡ shown self.old medium.old }
         ensures changed { self.new ≡ after_write_back line self.old }
         ensures medium { medium.new ≡ written_back line self.old medium.old }
@@ -406,15 +460,15 @@ impl Cache {
         self.note_write_back(line);
     }
 
-    /// Notes that a line was written back.
+    /// Notes that a resident line was written back.
     fn note_write_back(&mut self, line: u32)
-        requires { line < self.old.orders.lines }
+        requires { is_resident self.old line ≡ true }
         ensures changed { self.new ≡ after_write_back line self.old }
         ensures sound { IsCache self.new }
     {
-        let leaving = &mut self.leaving;
-        leaving[line as usize] = false;
-        self.orders.note_write_back(line);
+        let slot = self.slots.slot_of(line);
+        self.leaving[slot as usize] = false;
+        self.orders.note_write_back(slot);
     }
 
     /// Drops a resident line that isn't dirty.
@@ -424,9 +478,9 @@ impl Cache {
         ensures changed { self.new ≡ after_drop line self.old }
         ensures sound { IsCache self.new }
     {
-        let copies = &mut self.copies;
-        copies[line as usize] = None;
-        self.orders.note_drop(line);
+        let slot = self.slots.slot_of(line);
+        self.orders.note_drop(line % SETS, slot);
+        self.slots.release(line);
         self.resident -= 1;
     }
 }
@@ -439,46 +493,43 @@ pub fn no_victim_with_room()
         victim cache line ≡ None }
 {}
 
-/// The least recently used line of the lowest set that has a line.
+/// The least recently used slot of a set, or, where that has none, of the lowest set that has one.
+fn oldest_slot(orders: &Orders, set: u32) -> Option<u32>
+    requires { set < 8 }
+    ensures { result ≡ option_or (last (recent_in orders.now set)) (oldest_of_first orders.now.recency) }
+{
+    match orders.oldest(set) {
+        Some(slot) => Some(slot),
+        None => lowest_oldest(orders),
+    }
+}
+
+/// The least recently used slot of the lowest set that has one.
 #[tactic(auto, using(crate::proofs::Victims::oldest_steps))]
 fn lowest_oldest(orders: &Orders) -> Option<u32>
     requires { IsOrdered orders.now }
     ensures { result ≡ oldest_of_first orders.now.recency }
 {
     for set in 0..SETS {
-        if let Some(line) = orders.oldest(set) {
-            return Some(line);
+        if let Some(slot) = orders.oldest(set) {
+            return Some(slot);
         }
     }
     None
 }
 
-/// Writes the low `width` bytes of `value` from a place on in the copy of a line, which has one.
-#[inline(always)]
-fn store_in_copy(copy: &mut Option<[u8; LINE_SIZE]>, at: usize, width: usize, value: u64)
-    requires resident { is_some copy.old ≡ true }
-    requires fits { at + width ≤ 64 }
-    requires few { width ≤ 8 }
-    ensures { (bytes : List ℕ) → copy.old ≡ Some bytes → copy.new ≡ Some (stored bytes at width value) }
-{
-    match copy {
-        Some(bytes) => store_bytes(bytes, at, width, value),
-        None => unreachable!(),
-    }
-}
-
-fn no_copies(alloc: Global, lines: u32) -> Result<Vec<Option<[u8; LINE_SIZE]>>, AllocError>
-    ensures { IfOk result (λ copies. copies.items ≡ replicate lines None) }
+fn empty_copies(alloc: Global, slots: u32) -> Result<Vec<[u8; LINE_SIZE]>, AllocError>
+    ensures { IfOk result (λ copies. copies.items ≡ replicate slots (replicate 64 0)) }
 {
     let mut copies = Vec::new(alloc);
-    copies.resize(lines as usize, None)?;
+    copies.resize(slots as usize, [0; LINE_SIZE])?;
     Ok(copies)
 }
 
-fn no_flags(alloc: Global, lines: u32) -> Result<Vec<bool>, AllocError>
-    ensures { IfOk result (λ flags. flags.items ≡ replicate lines false) }
+fn no_flags(alloc: Global, slots: u32) -> Result<Vec<bool>, AllocError>
+    ensures { IfOk result (λ flags. flags.items ≡ replicate slots false) }
 {
     let mut flags = Vec::new(alloc);
-    flags.resize(lines as usize, false)?;
+    flags.resize(slots as usize, false)?;
     Ok(flags)
 }

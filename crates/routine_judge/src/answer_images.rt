@@ -9,7 +9,7 @@ use crate::right::RightAnswers;
 use program::Program;
 use recovery::Routine;
 use std::alloc::{AllocError, Global};
-use verdict::{CutImage, Images, Numbers, Question, Recovery};
+use verdict::{CutImage, Images, Question, Recovery};
 
 /// Images, and by what they are judged: an image is good where the routine's answer on it is a right one.
 #[derive(Drop)]
@@ -91,7 +91,7 @@ impl<I: Images> Recovery for AnswerImages<'_, I> {
         &self,
         alloc: Global,
         routine: &mut Routine,
-        numbers: &Numbers,
+        numbers: &[u32],
         asked: &mut Vec<Question>,
     ) -> Result<Option<Cause>, AllocError> {
         let image = CutImage::new(self.images, numbers);

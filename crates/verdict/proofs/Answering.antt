@@ -1,5 +1,5 @@
 -- What recovery came to at entries of the queue: what it was while others are taken in, and at entries side by side.
-use Rattle.std.proofs.Common.{◌≡◌, ℕ, ◌+◌, ◌≤◌, ◌<◌, List, [], ◌∷◌, ◌++◌, Bool, Option, length, set, take, drop, get_or, refl, sym, ap, subst, ◌∙◌, arith, append_assoc}
+use Rattle.std.proofs.Common.{◌≡◌, ℕ, zero, suc, ◌+◌, ◌≤◌, ◌<◌, List, [], ◌∷◌, ◌++◌, Bool, Option, length, set, take, drop, get_or, refl, sym, ap, subst, ◌∙◌, arith, append_assoc}
 use Rattle.std.proofs.lemmas.List.{get_or_append_left, get_or-set_other, length-append, length-set}
 use Rattle.std.specs.Prelude.{IfOk, Err, Ok, Result}
 use Rattle.verdict.specs.Pieces.{AreAnswers, IsPiece, all_branching}

@@ -1,5 +1,5 @@
 -- What branches off an entry, question by question.
-use Rattle.std.proofs.Common.{◌≡◌, inl, inr, ℕ, zero, suc, ◌+◌, ◌-◌, ◌≤◌, ◌<◌, ◌==◌, ◌&&◌, if◌then◌else◌, Bool, true, false, eqb, ltb, List, [], ◌∷◌, ◌++◌, length, take, drop, get_or, slice_index, refl, sym, ap, subst, ◌∙◌, arith, append_assoc}
+use Rattle.std.proofs.Common.{◌≡◌, ◌≢◌, inl, inr, ℕ, zero, suc, ◌+◌, ◌-◌, ◌≤◌, ◌<◌, ◌==◌, ◌&&◌, if◌then◌else◌, Bool, true, false, eqb, ltb, List, [], ◌∷◌, ◌++◌, length, take, drop, get_or, slice_index, refl, sym, ap, subst, ◌∙◌, arith, append_assoc}
 use Rattle.std.specs.Prelude.{bit_or}
 use Rattle.std.proofs.Math.Path.{fun_ext}
 use Rattle.std.proofs.lemmas.List.{append-nil, take_more, drop_more, length-take-le}
@@ -146,9 +146,9 @@ branching_more p alike low high c asked at d less =
     ∙ ap (λ (n : ℕ). siblings (is_new alike low c (take at asked) x) p (n + 1) x.line (c x.line + 1) (high x.line - c x.line) ++ branching p alike low high c (take at asked ++ x ∷ []) (drop (at + 1) asked)) size
     ∙ ap (λ (s : List Question). siblings (is_new alike low c (take at asked) x) p (at + 1) x.line (c x.line + 1) (high x.line - c x.line) ++ branching p alike low high c s (drop (at + 1) asked)) (sym (take_more asked at d less))
 
--- the questions before this place are seen, and what branches off there is found
+-- of the lines with several numbers the questions before this place are seen, and what branches off there is found
 pub record IsFound (alike : Question → ℕ → ℕ → Bool) (low high c : ℕ → ℕ) (p decided : ℕ) (asked : List Question) (place : ℕ) (seen : List ℕ) (found : List Entry) : Type 0 where
-  pub bytes : (l : ℕ) → slice_index seen l ≡ so_far l 0 (take place asked)
+  pub bytes : (l : ℕ) → low l ≢ high l → slice_index seen l ≡ so_far l 0 (take place asked)
   pub early : place < decided → found ≡ []
   pub late : decided ≤ place → branching p alike low high c (take decided asked) (drop decided asked) ≡ found ++ branching p alike low high c (take place asked) (drop place asked)
 
@@ -156,35 +156,35 @@ pub found_first : (alike : Question → ℕ → ℕ → Bool) (low high c : ℕ 
     ((l : ℕ) → slice_index seen l ≡ 0) → found ≡ [] → IsFound alike low high c p decided asked 0 seen found
 unfolding so_far
 found_first alike low high c p decided asked seen found h e = record {
-  bytes = h;
+  bytes = λ l several. h l;
   early = λ less. e;
   late = λ le. let z : decided ≡ 0 = omega (arith, le) in rw (e, z) refl;
 }
 
-seen_more : (asked : List Question) (place : ℕ) (q d : Question) (old new : List ℕ) → place < length asked → q ≡ get_or asked place d →
-    ((l : ℕ) → slice_index old l ≡ so_far l 0 (take place asked)) →
+seen_more : (low high : ℕ → ℕ) (asked : List Question) (place : ℕ) (q d : Question) (old new : List ℕ) → place < length asked → q ≡ get_or asked place d →
+    ((l : ℕ) → low l ≢ high l → slice_index old l ≡ so_far l 0 (take place asked)) →
     ((l : ℕ) → slice_index new l ≡ (if q.line == l then bit_or (slice_index old l) q.bytes else slice_index old l)) →
-    (l : ℕ) → slice_index new l ≡ so_far l 0 (take (place + 1) asked)
-seen_more asked place q d old new less e h n l =
-    n l ∙ ap (λ (b : ℕ). if q.line == l then bit_or b q.bytes else b) (h l) ∙ sym (so_far_last l 0 (take place asked) q)
+    (l : ℕ) → low l ≢ high l → slice_index new l ≡ so_far l 0 (take (place + 1) asked)
+seen_more low high asked place q d old new less e h n l several =
+    n l ∙ ap (λ (b : ℕ). if q.line == l then bit_or b q.bytes else b) (h l several) ∙ sym (so_far_last l 0 (take place asked) q)
     ∙ ap (λ (x : Question). so_far l 0 (take place asked ++ x ∷ [])) e
     ∙ ap (λ (qs : List Question). so_far l 0 qs) (sym (take_more asked place d less))
 
 -- a question that is decided, or asks nothing more
 pub found_same : (alike : Question → ℕ → ℕ → Bool) (low high c : ℕ → ℕ) (p decided : ℕ) (asked : List Question) (place : ℕ) (q d : Question) (before : ℕ) (old new : List ℕ) (found later : List Entry) →
-    IsEquivalence alike → AreBytes alike → low q.line ≤ c q.line → later ≡ found → place < length asked → q ≡ get_or asked place d → before ≡ slice_index old q.line →
+    IsEquivalence alike → AreBytes alike → low q.line ≢ high q.line → low q.line ≤ c q.line → later ≡ found → place < length asked → q ≡ get_or asked place d → before ≡ slice_index old q.line →
     (decided ≤ place → bit_or before q.bytes ≡ before) →
     ((l : ℕ) → slice_index new l ≡ (if q.line == l then bit_or (slice_index old l) q.bytes else slice_index old l)) →
     IsFound alike low high c p decided asked place old found → IsFound alike low high c p decided asked (place + 1) new later
-found_same alike low high c p decided asked place q d before old new found later eq bytes above same less e was none n h = subst (IsFound alike low high c p decided asked (place + 1) new) (sym same) (record {
-  bytes = seen_more asked place q d old new less e h.bytes n;
+found_same alike low high c p decided asked place q d before old new found later eq bytes several above same less e was none n h = subst (IsFound alike low high c p decided asked (place + 1) new) (sym same) (record {
+  bytes = seen_more low high asked place q d old new less e h.bytes n;
   early = λ early. h.early (omega (arith, early));
   late = λ le. elim (cases_eq decided (place + 1)) [
     | inl at ↦ let z : found ≡ [] = h.early (omega (arith, at)) in rw (z, at) refl
     | inr nd ↦
         let after : decided ≤ place = omega (arith, le, nd) in
         let seen : List Question = take place asked in
-        let mask : before ≡ so_far q.line 0 seen = was ∙ h.bytes q.line in
+        let mask : before ≡ so_far q.line 0 seen = was ∙ h.bytes q.line several in
         let here : siblings (is_new alike low c seen q) p (place + 1) q.line (c q.line + 1) (high q.line - c q.line) ≡ [] =
         ap (λ (new : ℕ → Bool). siblings new p (place + 1) q.line (c q.line + 1) (high q.line - c q.line)) (new_behind alike low c seen q bytes)
         ∙ siblings_none (is_new_behind alike low q (so_far q.line 0 seen) (c q.line)) p (place + 1) q.line (c q.line + 1) (high q.line - c q.line)
@@ -201,16 +201,16 @@ found_same alike low high c p decided asked place q d before old new found later
 
 -- a question that asks more
 pub found_more : (alike : Question → ℕ → ℕ → Bool) (low high c : ℕ → ℕ) (p decided : ℕ) (asked : List Question) (place : ℕ) (q d : Question) (before : ℕ) (old new : List ℕ) (found pushed more : List Entry) →
-    AreBytes alike → more ≡ pushed → place < length asked → q ≡ get_or asked place d → before ≡ slice_index old q.line → decided ≤ place →
+    AreBytes alike → low q.line ≢ high q.line → more ≡ pushed → place < length asked → q ≡ get_or asked place d → before ≡ slice_index old q.line → decided ≤ place →
     ((l : ℕ) → slice_index new l ≡ (if q.line == l then bit_or (slice_index old l) q.bytes else slice_index old l)) →
     pushed ≡ found ++ siblings (is_new_behind alike low q before (c q.line)) p (place + 1) q.line (c q.line + 1) (high q.line - c q.line) →
     IsFound alike low high c p decided asked place old found → IsFound alike low high c p decided asked (place + 1) new more
-found_more alike low high c p decided asked place q d before old new found pushed more bytes same less e was after n m h = record {
-  bytes = seen_more asked place q d old new less e h.bytes n;
+found_more alike low high c p decided asked place q d before old new found pushed more bytes several same less e was after n m h = record {
+  bytes = seen_more low high asked place q d old new less e h.bytes n;
   early = λ early. absurd (omega (arith, early, after));
   late = λ le.
       (let seen : List Question = take place asked in
-      let mask : before ≡ so_far q.line 0 seen = was ∙ h.bytes q.line in
+      let mask : before ≡ so_far q.line 0 seen = was ∙ h.bytes q.line several in
       let news : is_new_behind alike low q before (c q.line) ≡ is_new alike low c seen q =
       ap (λ (b : ℕ). is_new_behind alike low q b (c q.line)) mask ∙ sym (new_behind alike low c seen q bytes) in
       let here : List Entry = siblings (is_new alike low c seen q) p (place + 1) q.line (c q.line + 1) (high q.line - c q.line) in
@@ -222,6 +222,35 @@ found_more alike low high c p decided asked place q d before old new found pushe
       ≡ siblings (is_new alike low c (take place asked) x) p (place + 1) x.line (c x.line + 1) (high x.line - c x.line) ++ rest)
       (sym e) (branching_more p alike low high c asked place d less))
       ∙ sym (append_assoc found here rest) ∙ ap (λ (r : List Entry). r ++ rest) (sym grown));
+}
+
+-- a question of a line that has one number
+pub found_closed : (alike : Question → ℕ → ℕ → Bool) (low high c : ℕ → ℕ) (p decided : ℕ) (asked : List Question) (place : ℕ) (q d : Question) (seen : List ℕ) (found : List Entry) →
+    low q.line ≡ high q.line → low q.line ≤ c q.line → place < length asked → q ≡ get_or asked place d →
+    IsFound alike low high c p decided asked place seen found → IsFound alike low high c p decided asked (place + 1) seen found
+found_closed alike low high c p decided asked place q d seen found one above less e h = record {
+  bytes = λ l several.
+      let other : q.line ≢ l = λ same. several (subst (λ (n : ℕ). low n ≡ high n) same one) in
+      let f : eqb q.line l ≡ false = grind (arith, other) in
+      h.bytes l several
+      ∙ sym (so_far_last l 0 (take place asked) q ∙ ap (λ (b : Bool). if b then bit_or (so_far l 0 (take place asked)) q.bytes else so_far l 0 (take place asked)) f)
+      ∙ ap (λ (x : Question). so_far l 0 (take place asked ++ x ∷ [])) e
+      ∙ ap (λ (qs : List Question). so_far l 0 qs) (sym (take_more asked place d less));
+  early = λ early. h.early (omega (arith, early));
+  late = λ le. elim (cases_eq decided (place + 1)) [
+    | inl at ↦ let z : found ≡ [] = h.early (omega (arith, at)) in rw (z, at) refl
+    | inr nd ↦
+        let after : decided ≤ place = omega (arith, le, nd) in
+        let none : high q.line - c q.line ≡ 0 = omega (arith, one, above) in
+        let here : siblings (is_new alike low c (take place asked) q) p (place + 1) q.line (c q.line + 1) (high q.line - c q.line) ≡ [] =
+        ap (λ (n : ℕ). siblings (is_new alike low c (take place asked) q) p (place + 1) q.line (c q.line + 1) n) none in
+        let more = branching_more p alike low high c asked place d less in
+        h.late after ∙ ap (λ (r : List Entry). found ++ r)
+        (subst (λ (x : Question). branching p alike low high c (take place asked) (drop place asked)
+        ≡ siblings (is_new alike low c (take place asked) x) p (place + 1) x.line (c x.line + 1) (high x.line - c x.line) ++ branching p alike low high c (take (place + 1) asked) (drop (place + 1) asked))
+        (sym e) more
+        ∙ ap (λ (r : List Entry). r ++ branching p alike low high c (take (place + 1) asked) (drop (place + 1) asked)) here)
+  ];
 }
 
 pub found_all : (alike : Question → ℕ → ℕ → Bool) (low high c : ℕ → ℕ) (p decided : ℕ) (asked : List Question) (place : ℕ) (seen : List ℕ) (found : List Entry) → length asked ≤ place →

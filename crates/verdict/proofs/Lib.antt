@@ -11,7 +11,6 @@ pub mod BranchesBranching
 pub mod Alikes
 pub mod Nodes
 pub mod Numbering
-pub mod Paging
 pub mod Splitting
 pub mod Counting
 pub mod Lowest

@@ -85,22 +85,6 @@ number_listed numbers lines line number less h = record {
   below = below_same (length numbers) (length (set numbers line number)) (lines ++ line ∷ []) (sym (length_set numbers line number)) (below_last (length numbers) lines line less h.below);
 }
 
--- a line that is listed, though it stands at its floor still
-pub number_more : (numbers lines : List ℕ) (line : ℕ) → line < length numbers → AreListed numbers lines → AreListed numbers (lines ++ line ∷ [])
-number_more numbers lines line less h = record {
-  listed = λ l t. has_left l lines (line ∷ []) (h.listed l t);
-  below = below_last (length numbers) lines line less h.below;
-}
-
--- the list that a line is put on where it has no number
-pub number_first : (numbers new lines more : List ℕ) (line number : ℕ) → line < length numbers → new ≡ set numbers line number → more ≡ lines ++ line ∷ [] →
-    AreListed numbers lines → AreListed new more
-number_first numbers new lines more line number less put on h = rw (put, on) (number_listed numbers lines line number less h)
-
-pub number_unput : (numbers new lines more : List ℕ) (line : ℕ) → line < length numbers → new ≡ numbers → more ≡ lines ++ line ∷ [] →
-    AreListed numbers lines → AreListed new more
-number_unput numbers new lines more line less same on h = rw (same, on) (number_more numbers lines line less h)
-
 last_below : (n : ℕ) (lines : List ℕ) (x : ℕ) → AllByRecursion (λ l. l < n) (lines ++ x ∷ []) → x < n
 last_below n [] x h = h.0
 last_below n (y ∷ lines) x h = last_below n lines x h.1

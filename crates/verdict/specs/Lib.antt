@@ -5,7 +5,6 @@ pub mod Verdicts
 pub mod GoingOn
 pub mod Branches
 pub mod Numbers
-pub mod Paged
 pub mod Queue
 pub mod Opened
 pub mod Edges

@@ -3,12 +3,12 @@
 
 pub use laws::{Asking, floor_adds_no_branches, store_adds_no_branches};
 pub use line_bytes::LineBytes;
-pub use numbers::Numbers;
 pub use opener::{Opened, Opener};
 pub use question::Question;
 pub use recovery::Recovery;
 
 mod edges;
+mod filled;
 mod findings;
 mod lanes;
 mod laws;
@@ -16,7 +16,6 @@ mod line_bytes;
 mod lines;
 mod numbers;
 mod opener;
-mod paged;
 mod pieces;
 mod progress;
 mod question;

@@ -5,7 +5,6 @@ ghost use Rattle.std.specs.Prelude.{◌≡◌, ◌<◌, length};
 ghost use Rattle.verdict.specs.CutImages.{AreNumbers};
 ghost use Rattle.verdict.specs.Numbers.{number_over};
 
-use crate::branches::Numbers;
 use crate::images::Images;
 use std::marker::Model;
 
@@ -15,7 +14,7 @@ use std::marker::Model;
 #[derive(Drop)]
 pub struct CutImage<'a, 'c, I: Images> {
     images: &'a I,
-    numbers: &'c Numbers,
+    numbers: &'c [u32],
 }
 
 impl<'a, 'c, I: Images> Model for CutImage<'a, 'c, I> {
@@ -31,7 +30,7 @@ impl<'a, 'c, I: Images> Model for CutImage<'a, 'c, I> {
 }
 
 impl<'a, 'c, I: Images> CutImage<'a, 'c, I> {
-    pub fn new(images: &'a I, numbers: &'c Numbers) -> CutImage<'a, 'c, I>
+    pub fn new(images: &'a I, numbers: &'c [u32]) -> CutImage<'a, 'c, I>
         requires { AreNumbers (I.lines images.now) (I.low images.now) (I.high images.now) numbers.now }
         ensures { result ≡ I.image images.now (number_over (I.low images.now) numbers.now) }
     {
@@ -60,12 +59,12 @@ impl<'a, 'c, I: Images> CutImage<'a, 'c, I> {
 
 /// The number of a line in a cut.
 #[inline(always)]
-fn number_of<I: Images>(images: &I, numbers: &Numbers, line: u32) -> u32
+fn number_of<I: Images>(images: &I, numbers: &[u32], line: u32) -> u32
     requires line { line < I.lines images.now }
     requires size { length numbers.now ≡ I.lines images.now }
     ensures { result ≡ number_over (I.low images.now) numbers.now line }
 {
-    match numbers.of(line) {
+    match numbers[line as usize] {
         0 => images.lowest(line),
         number => number,
     }

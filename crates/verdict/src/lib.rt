@@ -17,7 +17,7 @@ mod rows;
 mod stretches;
 
 pub use branches::{
-    Asking, LineBytes, Numbers, Opened, Opener, Question, Recovery, floor_adds_no_branches,
+    Asking, LineBytes, Opened, Opener, Question, Recovery, floor_adds_no_branches,
     store_adds_no_branches,
 };
 pub use cut_image::CutImage;

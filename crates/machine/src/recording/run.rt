@@ -98,7 +98,7 @@ impl Run {
     }
 
     /// The events, each with the number of the hart step that made it, the first one's being 1, and the pc that its hart had before
-    /// that step.
+    /// that step. AllocError where a growth is refused.
     pub fn traced(&self, alloc: Global) -> Result<Vec<TracedEvent>, AllocError>
         ensures value { IfOk result (λ traced. traced.items ≡ self.now.traced) }
         ensures events { events_in self.now.traced ≡ self.now.events }

@@ -18,7 +18,7 @@ use crate::outside::cause::Sought;
 use crate::outside::replies::Replies;
 use crate::outside::right_replies::RightReplies;
 use std::alloc::{AllocError, Global};
-use verdict::{CutImage, Images, MomentCuts, Numbers, Question, Recovery};
+use verdict::{CutImage, Images, MomentCuts, Question, Recovery};
 
 /// The images of a moment, and by what they are judged: an image is good where a reply is one on it whose answer is right.
 #[derive(Drop)]
@@ -105,7 +105,7 @@ impl Recovery for KnownImages<'_, '_, '_> {
         &self,
         _alloc: Global,
         _workspace: &mut (),
-        numbers: &Numbers,
+        numbers: &[u32],
         asked: &mut Vec<Question>,
     ) -> Result<Option<Sought>, AllocError> {
         ask_whole(&self.replies.lines, asked)?;

@@ -124,8 +124,18 @@ const FENCE: &[Made] = &[Made::Fence];
 
 const END: &[Made] = &[Made::End(1)];
 
-/// The append of an entry: its line is cleaned and fenced, and then the inode's tail is.
-const APPEND: Parts = &[(0, ENTRY), (0, FENCE), (0, TAIL), (0, FENCE), (0, END)];
+/// So many fences that two workers share the moments.
+const FENCES: &[Made] = &[Made::Fence; 64];
+
+/// The append of an entry: its line is cleaned and fenced, and then the inode's tail is. The fences behind it change nothing.
+const APPEND: Parts = &[
+    (0, ENTRY),
+    (0, FENCE),
+    (0, TAIL),
+    (0, FENCE),
+    (0, END),
+    (0, FENCES),
+];
 
 /// The entries of a rename, durable and not yet in a log.
 const RENAME_ENTRIES: &[Made] = &[
@@ -255,8 +265,8 @@ pub(crate) static APPEND_PASSES: Run = Run {
     inodes: 1,
     events: APPEND,
     verdict: Plain::Pass {
-        moments: 11,
-        images: Some(22),
+        moments: 75,
+        images: Some(86),
     },
 };
 

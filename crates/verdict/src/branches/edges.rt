@@ -54,7 +54,7 @@ impl Run {
     {
         match self.first_bad_edge(alloc, recovery, workspace, &lines)? {
             Some(cause) => Ok(Opened::OverBad {
-                numbers: self.numbers.to_vec(alloc)?,
+                numbers: self.numbers.as_slice().to_vec(alloc)?,
                 cause,
             }),
             None => Ok(Opened::Over { lines: Some(lines) }),
@@ -177,6 +177,6 @@ impl Run {
         ensures fits { R.fits recovery.now workspace.new }
     {
         self.asked.clear();
-        recovery.recover(alloc, workspace, &self.numbers, &mut self.asked)
+        recovery.recover(alloc, workspace, self.numbers.as_slice(), &mut self.asked)
     }
 }

@@ -2,7 +2,7 @@
 
 ghost use Rattle.std.specs.Prelude.{◌≡◌, ℕ, ◌<◌, ◌==◌, if◌then◌else◌, bit_or, length, replicate, slice_index, IfOk, OnOk};
 
-use crate::branches::paged::Paged;
+use crate::branches::filled::filled;
 use crate::branches::question::Question;
 use std::alloc::{AllocError, Global};
 use std::marker::Model;
@@ -10,19 +10,19 @@ use std::marker::Model;
 /// Of each line some bytes, the lowest bit for its first byte, and the list of the lines that have some, by which it is cleared.
 #[derive(Drop)]
 pub struct LineBytes {
-    by_line: Paged<u64>,
+    by_line: Vec<u64>,
     lines: Vec<u32>,
 }
 
 impl Model for LineBytes {
-    ghost use Rattle.std.specs.Prelude.{◌≡◌, ℕ, List};
+    ghost use Rattle.std.specs.Prelude.{ℕ, List};
     ghost use Rattle.verdict.specs.Numbers.{AreListed};
 
     ghost Value = { List ℕ };
 
     ghost view = { λ b. b.by_line.items };
 
-    ghost invariant = { λ b. (b.by_line.none ≡ 0) × AreListed b.by_line.items b.lines.items };
+    ghost invariant = { λ b. AreListed b.by_line.items b.lines.items };
 }
 
 impl LineBytes {
@@ -31,7 +31,7 @@ impl LineBytes {
         ensures { IfOk result (λ bytes. bytes ≡ replicate lines 0) }
     {
         Ok(LineBytes {
-            by_line: Paged::new(alloc, lines, 0),
+            by_line: filled(alloc, 0, lines)?,
             lines: Vec::new(alloc),
         })
     }
@@ -42,7 +42,7 @@ impl LineBytes {
         requires { line < length self.now }
         ensures { result ≡ slice_index self.now line }
     {
-        self.by_line.of(line)
+        self.by_line[line as usize]
     }
 
     /// Adds those of a question to its line, which is there, and returns which the line had before.
@@ -54,11 +54,11 @@ impl LineBytes {
         ensures after { OnOk result ((l : ℕ) → slice_index self.new l ≡ (if question.line == l then bit_or (slice_index self.old l) question.bytes else slice_index self.old l)) }
         ensures size { length self.new ≡ length self.old }
     {
-        let before = self.by_line.of(question.line);
+        let before = self.by_line[question.line as usize];
         if before == 0 {
             self.lines.push(question.line)?;
         }
-        self.by_line.set(question.line, before | question.bytes)?;
+        self.by_line[question.line as usize] = before | question.bytes;
         Ok(before)
     }
 
@@ -69,7 +69,7 @@ impl LineBytes {
         ensures size { length self.new ≡ length self.old }
     {
         while let Some(line) = self.lines.pop() {
-            self.by_line.reset(line);
+            self.by_line[line as usize] = 0;
         }
     }
 }

@@ -5,7 +5,7 @@ ghost use Rattle.std.specs.List.{AllByRecursion};
 ghost use Rattle.verdict.specs.Branches.{has_line};
 ghost use Rattle.verdict.specs.Numbers.{has, is_flagged};
 
-use crate::branches::paged::Paged;
+use crate::branches::filled::filled;
 use crate::branches::question::Question;
 use std::alloc::{AllocError, Global};
 use std::marker::Model;
@@ -13,19 +13,19 @@ use std::marker::Model;
 /// A set of lines: a flag for each line, and the list of those that are in it, by which it is emptied.
 #[derive(Drop)]
 pub struct LineSet {
-    flags: Paged<bool>,
+    flags: Vec<bool>,
     lines: Vec<u32>,
 }
 
 impl Model for LineSet {
-    ghost use Rattle.std.specs.Prelude.{◌≡◌, ℕ, false, true, Bool, List};
+    ghost use Rattle.std.specs.Prelude.{◌≡◌, ℕ, true, Bool, List};
     ghost use Rattle.verdict.specs.Numbers.{has, is_flagged, AreInList};
 
     ghost Value = { List Bool };
 
     ghost view = { λ s. s.flags.items };
 
-    ghost invariant = { λ s. (s.flags.none ≡ false) × AreInList s.flags.items s.lines.items
+    ghost invariant = { λ s. AreInList s.flags.items s.lines.items
         × ((l : ℕ) → has l s.lines.items ≡ true → is_flagged l s.flags.items ≡ true) };
 }
 
@@ -35,7 +35,7 @@ impl LineSet {
         ensures { IfOk result (λ set. set ≡ replicate lines false) }
     {
         Ok(LineSet {
-            flags: Paged::new(alloc, lines, false),
+            flags: filled(alloc, false, lines)?,
             lines: Vec::new(alloc),
         })
     }
@@ -45,7 +45,7 @@ impl LineSet {
     pub fn contains(&self, line: u32) -> bool
         ensures { result ≡ is_flagged line self.now }
     {
-        line < self.flags.lines() && self.flags.of(line)
+        self.flags.get(line as usize) == Some(&true)
     }
 
     /// The lines that are in the set.
@@ -65,15 +65,11 @@ impl LineSet {
         ensures after { OnOk result ((l : ℕ) → is_flagged l self.new ≡ is_flagged l self.old || (line == l)) }
         ensures size { length self.new ≡ length self.old }
     {
-        if self.flags.of(line) {
-            return Ok(());
+        if !self.flags[line as usize] {
+            self.lines.push(line)?;
+            self.flags[line as usize] = true;
         }
-        self.lines.push(line)?;
-        let flagged = self.flags.set(line, true);
-        if flagged.is_err() {
-            self.lines.pop();
-        }
-        flagged
+        Ok(())
     }
 
     /// Puts these lines into the set.
@@ -109,7 +105,7 @@ impl LineSet {
         ensures size { length self.new ≡ length self.old }
     {
         while let Some(line) = self.lines.pop() {
-            self.flags.reset(line);
+            self.flags[line as usize] = false;
         }
     }
 }

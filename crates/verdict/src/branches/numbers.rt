@@ -5,7 +5,7 @@ ghost use Rattle.verdict.specs.Branches.{ComesBefore};
 ghost use Rattle.verdict.specs.Numbers.{has, number_over, AreAbove};
 ghost use Rattle.verdict.specs.Queue.{cut_at, IsTree, AreRaised};
 
-use crate::branches::paged::Paged;
+use crate::branches::filled::filled;
 use crate::branches::queue::Entry;
 use std::alloc::{AllocError, Global};
 use std::marker::Model;
@@ -13,19 +13,19 @@ use std::marker::Model;
 /// A number of stores for each line, 0 for a line at its floor, and the list of the raised lines, by which it is cleared.
 #[derive(Drop)]
 pub struct Numbers {
-    by_line: Paged<u32>,
+    by_line: Vec<u32>,
     raised: Vec<u32>,
 }
 
 impl Model for Numbers {
-    ghost use Rattle.std.specs.Prelude.{◌≡◌, ℕ, List};
+    ghost use Rattle.std.specs.Prelude.{ℕ, List};
     ghost use Rattle.verdict.specs.Numbers.{AreListed};
 
     ghost Value = { List ℕ };
 
     ghost view = { λ n. n.by_line.items };
 
-    ghost invariant = { λ n. (n.by_line.none ≡ 0) × AreListed n.by_line.items n.raised.items };
+    ghost invariant = { λ n. AreListed n.by_line.items n.raised.items };
 }
 
 impl Numbers {
@@ -34,30 +34,16 @@ impl Numbers {
         ensures { IfOk result (λ numbers. numbers ≡ replicate lines 0) }
     {
         Ok(Numbers {
-            by_line: Paged::new(alloc, lines, 0),
+            by_line: filled(alloc, 0, lines)?,
             raised: Vec::new(alloc),
         })
     }
 
-    /// The number of a line that is there, 0 for its floor.
-    #[inline(always)]
-    pub fn of(&self, line: u32) -> u32
-        requires { line < length self.now }
-        ensures { result ≡ slice_index self.now line }
+    /// The numbers by line.
+    pub fn as_slice(&self) -> &[u32]
+        ensures { result.now ≡ self.now }
     {
-        self.by_line.of(line)
-    }
-
-    /// The numbers by line. It takes time by the number of lines.
-    pub fn to_vec(&self, alloc: Global) -> Result<Vec<u32>, AllocError>
-        ensures { IfOk result (λ numbers. numbers.items ≡ self.now) }
-    {
-        let lines = self.by_line.lines();
-        let mut numbers = Vec::with_capacity(alloc, lines as usize)?;
-        for line in 0..lines {
-            numbers.push(self.of(line))?;
-        }
-        Ok(numbers)
+        &self.by_line
     }
 
     /// Takes each line to its floor.
@@ -67,7 +53,7 @@ impl Numbers {
         ensures size { length self.new ≡ length self.old }
     {
         while let Some(line) = self.raised.pop() {
-            self.by_line.reset(line);
+            self.by_line[line as usize] = 0;
         }
     }
 
@@ -91,16 +77,16 @@ impl Numbers {
     }
 
     /// Raises a line, unless it is raised: the last entry of a line counts.
-    #[tactic(auto, using(crate::proofs::Listed::number_put))]
+    #[tactic(auto, using(crate::proofs::Listed::number_listed))]
     #[inline(always)]
     fn raise(&mut self, line: u32, number: u32) -> Result<(), AllocError>
         requires { line < length self.old }
         ensures raised { OnOk result ((l : ℕ) → slice_index self.new l ≡ (if (l == line) && (slice_index self.old l == 0) then number else slice_index self.old l)) }
         ensures size { length self.new ≡ length self.old }
     {
-        if self.by_line.of(line) == 0 {
+        if self.by_line[line as usize] == 0 {
             self.raised.push(line)?;
-            self.by_line.set(line, number)?;
+            self.by_line[line as usize] = number;
         }
         Ok(())
     }
@@ -112,10 +98,11 @@ impl Numbers {
         ensures put { OnOk result ((l : ℕ) → slice_index self.new l ≡ (if l == line then number else slice_index self.old l)) }
         ensures size { length self.new ≡ length self.old }
     {
-        if self.by_line.of(line) == 0 {
-            return self.raise(line, number);
+        let before = self.by_line[line as usize];
+        if before == 0 {
+            self.raised.push(line)?;
         }
-        self.by_line.set(line, number)?;
+        self.by_line[line as usize] = number;
         Ok(())
     }
 
@@ -125,16 +112,16 @@ impl Numbers {
         ensures { (low : ℕ → ℕ) → AreAbove low self.now → AreAbove low other.now →
             IsTrue result ↔ ComesBefore (number_over low self.now) (number_over low other.now) }
     {
-        let end = self.by_line.lines();
-        let line = lowest_difference(&self.raised, self, other, end);
-        let line = lowest_difference(&other.raised, self, other, line);
-        line < end && self.of(line) < other.of(line)
+        let end = self.by_line.len();
+        let line = lowest_difference(&self.raised, &self.by_line, &other.by_line, end);
+        let line = lowest_difference(&other.raised, &self.by_line, &other.by_line, line);
+        line < end && self.by_line[line] < other.by_line[line]
     }
 }
 
 /// The lowest of these lines below `end` in which two cuts differ, or `end`.
 #[tactic(auto, using(crate::proofs::Listed::same_kept, crate::proofs::Listed::same_lower))]
-fn lowest_difference(lines: &[u32], one: &Numbers, other: &Numbers, end: u32) -> u32
+fn lowest_difference(lines: &[u32], one: &[u32], other: &[u32], end: usize) -> usize
     requires one { end ≤ length one.now }
     requires other { end ≤ length other.now }
     ensures most { result ≤ end }
@@ -143,8 +130,9 @@ fn lowest_difference(lines: &[u32], one: &Numbers, other: &Numbers, end: u32) ->
 {
     let mut lowest = end;
     for line in lines {
-        if *line < lowest && one.of(*line) != other.of(*line) {
-            lowest = *line;
+        let line = *line as usize;
+        if line < lowest && one[line] != other[line] {
+            lowest = line;
         }
     }
     lowest

@@ -272,7 +272,7 @@ impl Progress {
         }
         match least {
             Some(cause) => Ok(Opened::Bad {
-                numbers: self.findings.least.to_vec(alloc)?,
+                numbers: self.findings.least.as_slice().to_vec(alloc)?,
                 cause,
             }),
             None => Ok(Opened::Pass),
@@ -302,7 +302,7 @@ impl Progress {
         }
         match least {
             Some(cause) => Ok(Opened::OverBad {
-                numbers: self.findings.least.to_vec(alloc)?,
+                numbers: self.findings.least.as_slice().to_vec(alloc)?,
                 cause,
             }),
             None => {

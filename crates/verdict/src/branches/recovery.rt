@@ -1,6 +1,5 @@
 //! What is known of recovery.
 
-use crate::branches::numbers::Numbers;
 use crate::branches::question::Question;
 use std::alloc::{AllocError, Global};
 
@@ -85,7 +84,7 @@ pub trait Recovery {
         &self,
         alloc: Global,
         workspace: &mut Self::Workspace,
-        numbers: &Numbers,
+        numbers: &[u32],
         asked: &mut Vec<Question>,
     ) -> Result<Option<Self::Cause>, AllocError>
         requires fits { fits self.now workspace.old }

@@ -1,6 +1,6 @@
 //! One run of recovery.
 
-ghost use Rattle.std.specs.Prelude.{◌≡◌, ℕ, ◌+◌, ◌-◌, ◌<◌, ◌++◌, ◌==◌, if◌then◌else◌, List, length, slice_index, take, drop, IfOk, OnOk};
+ghost use Rattle.std.specs.Prelude.{◌≡◌, ◌≢◌, ℕ, ◌+◌, ◌-◌, ◌<◌, ◌++◌, ◌==◌, false, true, if◌then◌else◌, List, length, slice_index, take, drop, IfOk, OnOk};
 ghost use Rattle.std.specs.List.{AllByRecursion};
 ghost use Rattle.verdict.specs.Branches.{IsWithin};
 ghost use Rattle.verdict.specs.Numbers.{number_over, AreAbove};
@@ -62,11 +62,11 @@ impl Run {
     {
         self.numbers.set(entries, at)?;
         self.asked.clear();
-        let judged = recovery.recover(alloc, workspace, &self.numbers, &mut self.asked)?;
+        let judged = recovery.recover(alloc, workspace, self.numbers.as_slice(), &mut self.asked)?;
         let cut = Branched {
             place: at,
             decided: entries[at].decided,
-            numbers: &self.numbers,
+            numbers: self.numbers.as_slice(),
         };
         branch_off(recovery, &self.asked, &mut self.seen, &mut self.found, cut)?;
         Ok(judged)
@@ -81,7 +81,7 @@ struct Branched<'a> {
     /// How many of the questions that recovery asks were decided when the entry was made.
     decided: usize,
     /// The cut, by line, with 0 for a line at its floor.
-    numbers: &'a Numbers,
+    numbers: &'a [u32],
 }
 
 /// Finds what branches off: of each question asked from place `decided` on each new number above the cut's own.
@@ -106,12 +106,25 @@ fn branch_off<R: Recovery>(
         return Ok(());
     }
     for (place, question) in asked.iter().enumerate() {
+        if !is_open(recovery, question.line) {
+            continue;
+        }
         let before = seen.add(*question)?;
         if place >= cut.decided && before | question.bytes != before {
             push_siblings(recovery, found, cut, place + 1, *question, before)?;
         }
     }
     Ok(())
+}
+
+/// Whether the line has several numbers. Of most lines that recovery asks the floor is the only one.
+#[inline(always)]
+fn is_open<R: Recovery>(recovery: &R, line: u32) -> bool
+    requires { line < R.lines recovery.now }
+    ensures several { result ≡ true → R.low recovery.now line ≢ R.high recovery.now line }
+    ensures one { result ≡ false → R.low recovery.now line ≡ R.high recovery.now line }
+{
+    recovery.floor(line) != recovery.stores(line)
 }
 
 /// Adds an entry with the line of a question at each of its new numbers, where these bytes of the line were asked before: it is as the
@@ -158,11 +171,11 @@ fn push_siblings<R: Recovery>(
 
 /// The number of a line in a cut that has 0 for a line at its floor.
 #[inline(always)]
-fn number_of(numbers: &Numbers, line: u32, floor: u32) -> u32
+fn number_of(numbers: &[u32], line: u32, floor: u32) -> u32
     requires { line < length numbers.now }
     ensures { result ≡ (if slice_index numbers.now line == 0 then floor else slice_index numbers.now line) }
 {
-    match numbers.of(line) {
+    match numbers[line as usize] {
         0 => floor,
         number => number,
     }

@@ -7,7 +7,7 @@ ghost use Rattle.std.specs.Prelude.{◌≡◌, ◌≤◌, length};
 use std::alloc::{AllocError, Global};
 use std::test::Fail;
 use std::thread::Threads;
-use verdict::{Numbers, Opened, Opener, Question, Recovery};
+use verdict::{Opened, Opener, Question, Recovery};
 
 /// Asks the whole of line 0, and lines 1 and 2 only where line 0 has so many stores as the key. Then the image is bad where line 1 has
 /// at least so many stores, and that number is the cause. Each line stands after none of its stores, or more. Where there are too many
@@ -79,18 +79,17 @@ impl Recovery for Small {
         &self,
         _alloc: Global,
         _workspace: &mut (),
-        numbers: &Numbers,
+        numbers: &[u32],
         asked: &mut Vec<Question>,
     ) -> Result<Option<u32>, AllocError> {
         asked.push(whole_line(0))?;
-        if numbers.of(0) != self.key {
+        if numbers[0] != self.key {
             return Ok(None);
         }
         asked.push(whole_line(1))?;
         asked.push(whole_line(2))?;
-        let number = numbers.of(1);
-        if self.bad <= number {
-            Ok(Some(number))
+        if self.bad <= numbers[1] {
+            Ok(Some(numbers[1]))
         } else {
             Ok(None)
         }

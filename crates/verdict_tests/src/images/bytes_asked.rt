@@ -6,7 +6,7 @@ ghost use Rattle.verdict.specs.Bytes.{has_byte};
 use std::alloc::{AllocError, Global};
 use std::test::Fail;
 use std::thread::Threads;
-use verdict::{Numbers, Opened, Opener, Question, Recovery};
+use verdict::{Opened, Opener, Question, Recovery};
 
 /// Asks byte 0 of its one line, and byte 8 too where byte 0 is the key. Then the image is bad where byte 8 is at least so much, and that
 /// byte is the cause. The line stands after 0 to 3 stores, and has these bytes after each number of them.
@@ -83,10 +83,10 @@ impl Recovery for Twice {
         &self,
         _alloc: Global,
         _workspace: &mut (),
-        numbers: &Numbers,
+        numbers: &[u32],
         asked: &mut Vec<Question>,
     ) -> Result<Option<u8>, AllocError> {
-        let number = numbers.of(0) as usize;
+        let number = numbers[0] as usize;
         asked.push(Question { line: 0, bytes: 1 })?;
         if self.first[number] != self.key {
             return Ok(None);

@@ -1,13 +1,39 @@
-use Rattle.std.proofs.Common.{ap, ◌∙◌}
-use Rattle.lru_cache.specs.Cache.{CacheView, is_dirty, is_resident}
-use Rattle.lru_cache.proofs.Keeps.{held_drop, some_resident}
+use Rattle.std.proofs.Common.{ap, ◌∙◌, sym}
+use Rattle.lru_cache.specs.Order.{set_of}
+use Rattle.lru_cache.specs.Cache.{CacheView, is_dirty}
+use Rattle.lru_cache.proofs.InLines.{dropped_is, has_recent}
+use Rattle.lru_cache.proofs.Keeps.{in_set, some_resident}
+use Rattle.lru_cache.proofs.Told.{resident_held}
+use Rattle.lru_cache.proofs.Stays.{in_drop, room_for, there}
 use Rattle.lru_cache.proofs.Cache.drop_resident.Goals as goal
 
+pub slot_of-slot-requires : goal.slot_of-slot-requires
+slot_of-slot-requires c = resident_held _ _ _ _ _ _ c.self.invariant _ c.self.view_is c.args.line c.requires.resident
+
+pub note_drop-requires-clause-slot : goal.note_drop-requires-clause-slot
+note_drop-requires-clause-slot c =
+    let held = resident_held _ _ _ _ _ _ c.self.invariant _ c.self.view_is c.args.line c.requires.resident in
+    rw c.slot_of-slot.ensures (sym (has_recent _ _ _ _ _ _ c.self.invariant c.args.line held (set_of c.args.line)) ∙ (in_set _ c.self.invariant.held.sound c.args.line ∙ there _ _ _ _ _ _ c.self.invariant c.args.line held))
+
+pub release-requires-clause-held : goal.release-requires-clause-held
+release-requires-clause-held c = resident_held _ _ _ _ _ _ c.self.invariant _ c.self.view_is c.args.line c.requires.resident
+
+pub release-requires-clause-room : goal.release-requires-clause-room
+release-requires-clause-room c = room_for _ _ _ _ _ _ c.self.invariant c.args.line (resident_held _ _ _ _ _ _ c.self.invariant _ c.self.view_is c.args.line c.requires.resident)
+
 pub overflow_sub-self : goal.overflow_sub-self
-overflow_sub-self c = some_resident _ _ c.args.line c.self.invariant (ap (λ (w : CacheView). is_resident w c.args.line) c.self.view_is ∙ c.requires.resident)
+overflow_sub-self c = some_resident _ _ c.args.line c.self.invariant.held (there _ _ _ _ _ _ c.self.invariant c.args.line (resident_held _ _ _ _ _ _ c.self.invariant _ c.self.view_is c.args.line c.requires.resident))
 
 pub invariant_of-self : goal.invariant_of-self
-invariant_of-self c = held_drop _ _ c.self.invariant c.args.line _ c.note_drop.ensures.sound c.note_drop.ensures.changed (ap (λ (w : CacheView). is_dirty w c.args.line) c.self.view_is ∙ c.requires.clean) (ap (λ (w : CacheView). is_resident w c.args.line) c.self.view_is ∙ c.requires.resident)
+invariant_of-self c =
+    rw (c.note_drop.ensures.changed, c.release.ensures.changed, c.slot_of-slot.ensures)
+    (in_drop _ _ _ _ _ _ c.self.invariant c.args.line (resident_held _ _ _ _ _ _ c.self.invariant _ c.self.view_is c.args.line c.requires.resident) (ap (λ (w : CacheView). is_dirty w c.args.line) c.self.view_is ∙ c.requires.clean)
+    (rw c.release.ensures.changed at c.release.ensures.sound))
+
+pub returns-clause-changed : goal.returns-clause-changed
+returns-clause-changed c =
+    rw (c.note_drop.ensures.changed, c.release.ensures.changed, c.slot_of-slot.ensures, ← c.self.view_is)
+    (dropped_is _ _ _ _ _ _ c.self.invariant c.args.line (resident_held _ _ _ _ _ _ c.self.invariant _ c.self.view_is c.args.line c.requires.resident) (ap (λ (w : CacheView). is_dirty w c.args.line) c.self.view_is ∙ c.requires.clean))
 
 pub returns-clause-sound : goal.returns-clause-sound
-returns-clause-sound c = (invariant_of-self c).sound
+returns-clause-sound c = (invariant_of-self c).held.sound

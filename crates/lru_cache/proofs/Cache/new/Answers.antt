@@ -1,14 +1,18 @@
-use Rattle.lru_cache.proofs.Keeps.{held_empty}
 use Rattle.lru_cache.proofs.Shows.{over_empty}
+use Rattle.lru_cache.proofs.Stays.{in_new, made_is, ordered_empty}
 use Rattle.lru_cache.proofs.Cache.new.Goals as goal
 
 pub invariant_of-result : goal.invariant_of-result
 invariant_of-result c =
-    rw (c.in_ok-copies.ensures, c.in_ok-leaving.ensures) (held_empty _ _ _ c.in_ok-orders.ensures.made c.in_ok-orders.ensures.sound c.requires)
+    rw (c.in_ok-slots.ensures.made, c.in_ok-copies.ensures, c.in_ok-leaving.ensures, c.in_ok-orders.ensures.made)
+    (in_new c.args.capacity c.args.lines c.min-count.result c.min-count.ensures c.requires (rw c.in_ok-slots.ensures.made at c.in_ok-slots.ensures.sound) (ordered_empty c.args.lines))
+
+pub returns-clause-made : goal.returns-clause-made
+returns-clause-made c =
+    rw (c.in_ok-slots.ensures.made, c.in_ok-copies.ensures, c.in_ok-leaving.ensures, c.in_ok-orders.ensures.made) (made_is c.args.capacity c.args.lines c.min-count.result)
 
 pub returns-clause-sound : goal.returns-clause-sound
-returns-clause-sound c = (invariant_of-result c).sound
+returns-clause-sound c = (invariant_of-result c).held.sound
 
 pub returns-clause-over : goal.returns-clause-over
-returns-clause-over c = λ medium m e.
-    rw (c.in_ok-copies.ensures, c.in_ok-leaving.ensures, c.in_ok-orders.ensures.made) (over_empty _ _ medium m e)
+returns-clause-over c = λ medium m e. rw (returns-clause-made c) (over_empty _ _ medium m e)

@@ -1,4 +1,4 @@
-use Rattle.std.proofs.Common.{◌≡◌, ◌+◌}
+use Rattle.std.proofs.Common.{◌≡◌, ◌+◌, length}
 use Rattle.verdict.specs.Lanes.{AreTools}
 use Rattle.verdict.specs.Pieces.{IsPiece}
 use Rattle.verdict.proofs.branches.pieces.open_each.Given as goal

@@ -36,7 +36,7 @@ returns-in_ok-to_vec-in-Some-clause-opened g c =
     let s = c.args.recovery.now in
     let p = c.args.self.now in
     let some = subst (λ (x : Option g.row.R-Cause.Denot). IsAt (r.alike s) (r.asks s) (r.judged s) (r.low s) (r.high s) (r.lines s) p.opened p.findings.found.items p.findings.least x p.findings.asked) c.in-Some.is c.requires.at in
-    let e = c.in_ok-to_vec-in-Some.ensures in
+    let e = c.in_ok-to_vec-in-Some.ensures.items_if_clones_equal (λ x y same. same) ∙ c.as_slice.ensures in
     let bad = at_bad (r.alike s) (r.asks s) (r.judged s) (r.low s) (r.high s) (r.lines s) p.opened p.findings.found.items p.findings.least c.in-Some.cause p.findings.asked
     (g.met.R.Recovery.branchwise s) (c.requires.whole (few_of c.is_over.ensures c.if-is_over.false)) some in (
       at_few (r.alike s) (r.asks s) (r.judged s) (r.low s) (r.high s) (r.lines s) p.opened c.args.limit p.findings.found.items p.findings.least c.args.least p.findings.asked

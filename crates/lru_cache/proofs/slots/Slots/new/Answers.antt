@@ -1,0 +1,6 @@
+use Rattle.lru_cache.proofs.Tables.{table_made}
+use Rattle.lru_cache.proofs.slots.Slots.new.Goals as goal
+
+pub invariant_of-result : goal.invariant_of-result
+invariant_of-result c =
+    rw (c.in_ok-slot_of.ensures, c.in_ok-line_of.ensures) (table_made c.args.count c.args.lines c.in_ok-free.free.items c.in_ok-free.ensures.len c.in_ok-free.ensures.own)
