@@ -118,5 +118,5 @@ def write_loop(program, before, body, turns, name, more=0):
 
 def compiled(name):
     """Builds one of the programs of bench/c, in the current folder."""
-    subprocess.run(["cc", "-O2", "-std=c11", "-o", name, os.path.join(HERE, "c", f"{name}.c")], check=True)
+    subprocess.run(["cc", "-O2", "-std=c11", "-pthread", "-o", name, os.path.join(HERE, "c", f"{name}.c")], check=True)
     return os.path.abspath(name)
