@@ -422,7 +422,7 @@ impl Cache {
     {
         let slot = self.slots.take(line);
         self.copies[slot as usize] = bytes;
-        // the line that had the slot before may have left it set
+        // the invariant says nothing of the flags of free slots
         self.leaving[slot as usize] = false;
         self.orders.note_use(line % SETS, slot);
         self.resident += 1;
