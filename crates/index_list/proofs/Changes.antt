@@ -2,10 +2,11 @@
 use Rattle.std.proofs.Common.{◌≡◌, ℕ, zero, suc, ◌+◌, ◌<◌, ◌≤◌, true, false, not, eqb, Some, None, List, [], ◌∷◌, ◌++◌, length, cond, refl, arith, ap, sym, ◌∙◌, slice_index, slice_index_or, slice_set}
 use Rattle.std.proofs.lemmas.Bool.Decides.{nat_tests}
 use Rattle.std.proofs.lemmas.Grind.{common_steps}
+use Rattle.std.proofs.lemmas.List.{length-append}
 use Rattle.index_list.specs.Lists.{has, without, first, last, after, IsDistinct, NodeList}
-use Rattle.index_list.specs.Links.{next_on, prev_on, walk, IsRing}
-use Rattle.index_list.proofs.Members.{has-without, IsDistinct-without, IsDistinct-push, AllBelow-without, AllBelow-push, below_from_has, has_beyond, length-le_from_distinct}
-use Rattle.index_list.proofs.Steps.{next_in, prev_in, prev_end, next-without, prev-without, next-front, prev-front, next-back, prev-back, after-next, first-next, last-prev, has-next}
+use Rattle.index_list.specs.Links.{next_on, prev_on, walk, spelled, IsRing, IsLinked}
+use Rattle.index_list.proofs.Members.{has-without, IsDistinct-without, IsDistinct-push, AllBelow-without, AllBelow-push, AllBelow-more, below_from_has, has_beyond, length-le_from_distinct}
+use Rattle.index_list.proofs.Steps.{next_in, prev_in, prev_end, next-without, prev-without, next-front, prev-front, next-back, prev-back, after-next, first-next, last-prev, has-next, next_moved, prev_moved, first_end}
 
 -- a walk finds the list that the next numbers spell
 walk_spelled : (next : List ℕ) (e p most : ℕ) (l : List ℕ) → length l ≤ most → IsDistinct (p ∷ l) → has e l ≡ false →
@@ -31,16 +32,15 @@ default (x ∷ xs) zero d e h = refl
 default [] i d e h = absurd (omega arith)
 default (x ∷ xs) (suc i) d e h = default xs i d e (omega arith)
 
--- where each number is its own neighbour, the ring is empty
-pub empty : (n : ℕ) (next prev : List ℕ) → length next ≡ n + 1 → length prev ≡ n + 1 →
-    ((j : ℕ) → j < n + 1 → slice_index next j ≡ j) → ((j : ℕ) → j < n + 1 → slice_index prev j ≡ j) → IsRing n next prev []
-empty n next prev a b nexts prevs = record {
-  next_len = a;
-  prev_len = b;
+-- with no nodes, the end alone is its own neighbour
+pub empty : IsRing 0 (0 ∷ []) (0 ∷ []) []
+empty = record {
+  next_len = refl;
+  prev_len = refl;
   distinct = tt;
   below = tt;
-  next_is = λ j s. grind (arith, nat_tests, nexts j);
-  prev_is = λ j s. grind (arith, nat_tests, prevs j);
+  next_is = λ j s. let start : j ≡ 0 = omega arith in rw start refl;
+  prev_is = λ j s. let start : j ≡ 0 = omega arith in rw start refl;
 }
 
 -- two writes in a row, read
@@ -48,26 +48,39 @@ two_set : (l : List ℕ) (i v k w j : ℕ) → i < length l → k < length l →
     slice_index (slice_set (slice_set l i v) k w) j ≡ cond (eqb j k) w (cond (eqb j i) v (slice_index l j))
 two_set l i v k w j a b = grind (arith, nat_tests, common_steps)
 
+-- a write at each of three places, read
+three_set : (l : List ℕ) (a x b y c z j : ℕ) → a < length l → b < length l → c < length l →
+    slice_index (slice_set (slice_set (slice_set l a x) b y) c z) j ≡ cond (eqb j c) z (cond (eqb j b) y (cond (eqb j a) x (slice_index l j)))
+three_set l a x b y c z j p q r = grind (arith, nat_tests, common_steps)
+
+-- a number added behind the others, read
+at_push : (v : ℕ) (l : List ℕ) (j : ℕ) → j ≤ length l → slice_index (l ++ v ∷ []) j ≡ cond (eqb j (length l)) v (slice_index l j)
+at_push v [] zero h = refl
+at_push v [] (suc j) h = absurd (omega arith)
+at_push v (x ∷ xs) zero h = grind (arith, nat_tests)
+at_push v (x ∷ xs) (suc j) h = grind (arith, nat_tests, at_push v xs j (omega arith))
+
 -- what the fields of a ring say of its value
 pub record Opened (v : NodeList) (n : ℕ) (next prev : List ℕ) : Type 0 where
-  pub nodes : v.nodes ≡ n
+  pub few : n ≤ v.nodes
   pub ring : IsRing n next prev v.items
   pub end_out : has n v.items ≡ false
 
-pub opened : (v : NodeList) (n : ℕ) (next prev : List ℕ) → (let w : NodeList = record { nodes = n; items = walk next n n n } in w ≡ v) →
-    IsRing n next prev (walk next n n n) → Opened v n next prev
-opened v n next prev e r =
-    let is : walk next n n n ≡ v.items = ap (λ (w : NodeList). w.items) e in
-    let ring : IsRing n next prev v.items = rw is at r in
-    record { nodes = sym (ap (λ (w : NodeList). w.nodes) e); ring = ring; end_out = has_beyond n n v.items ring.below (omega arith) }
+pub opened : (v : NodeList) (nodes n : ℕ) (next prev items : List ℕ) (a b : ℕ) → (let w : NodeList = record { nodes = nodes; items = items } in w ≡ v) →
+    IsLinked nodes n next prev items a b → Opened v n next prev
+opened v nodes n next prev items a b e r =
+    let is : items ≡ v.items = ap (λ (w : NodeList). w.items) e in
+    let ring : IsRing n next prev v.items = rw is at r.ring in
+    record { few = omega (arith, r.few, ap (λ (w : NodeList). w.nodes) e); ring = ring; end_out = has_beyond n n v.items ring.below (omega arith) }
 
 -- the new numbers spell the new list, so the walk finds it
-pub closed : (n : ℕ) (next prev items : List ℕ) → IsRing n next prev items → IsRing n next prev (walk next n n n)
-closed n next prev items r = rw (made n next prev items r) r
+pub closed : (nodes n : ℕ) (next prev items : List ℕ) (a b : ℕ) → IsRing n next prev items → n ≤ nodes → a ≡ nodes + 1 → b ≡ nodes + 1 →
+    IsLinked nodes n next prev (spelled n next) a b
+closed nodes n next prev items a b r few at bt = rw (made n next prev items r) (record { ring = r; few = few; next_room = at; prev_room = bt })
 
-pub viewed : (v : NodeList) (n : ℕ) (next prev items : List ℕ) → v.nodes ≡ n → IsRing n next prev items →
-    (let w : NodeList = record { nodes = n; items = walk next n n n } in w ≡ record v { items = items })
-viewed v n next prev items e r = rw (made n next prev items r, e) refl
+pub viewed : (v : NodeList) (nodes n : ℕ) (next prev items : List ℕ) → v.nodes ≡ nodes → IsRing n next prev items →
+    (let w : NodeList = record { nodes = nodes; items = spelled n next } in w ≡ record v { items = items })
+viewed v nodes n next prev items e r = rw (made n next prev items r, e) refl
 
 module _ (v : NodeList) (n : ℕ) (next prev : List ℕ) (o : Opened v n next prev) where
   pub member_below : (i : ℕ) → has i v.items ≡ true → i < n
@@ -95,6 +108,9 @@ module _ (v : NodeList) (n : ℕ) (next prev : List ℕ) (o : Opened v n next pr
 
   pub last_small : prev_on n n v.items n ≤ n
   last_small = prev_small n (grind (arith, nat_tests))
+
+  pub first_small : next_on n n v.items n ≤ n
+  first_small = next_small n (grind (arith, nat_tests))
 
   pub pushed_front : (i first : ℕ) → i < n → has i v.items ≡ false → first ≡ next_on n n v.items n →
       IsRing n (slice_set (slice_set next n i) i first) (slice_set (slice_set prev first i) i n) (i ∷ v.items)
@@ -137,7 +153,7 @@ module _ (v : NodeList) (n : ℕ) (next prev : List ℕ) (o : Opened v n next pr
         prev_is = λ j s. grind (arith, nat_tests, two_set prev following before i i j (omega (arith, o.ring.prev_len)) (omega (arith, o.ring.prev_len)), o.ring.prev_is j s, prev-without n n i j v.items (o.end_out, o.ring.distinct) h o.end_out);
       }
 
-  pub gone : (i : ℕ) (next' prev' : List ℕ) → IsRing n next' prev' (without i v.items) → has i (walk next' n n n) ≡ false
+  pub gone : (i : ℕ) (next' prev' : List ℕ) → IsRing n next' prev' (without i v.items) → has i (spelled n next') ≡ false
   gone i next' prev' r =
       ap (λ (l : List ℕ). has i l) (made n next' prev' (without i v.items) r) ∙ (has-without i i v.items o.ring.distinct ∙ grind (arith, nat_tests))
 
@@ -153,3 +169,34 @@ module _ (v : NodeList) (n : ℕ) (next prev : List ℕ) (o : Opened v n next pr
 
   pub after_is : (i : ℕ) → has i v.items ≡ true → after i v.items ≡ cond (eqb (next_on n n v.items i) n) None (Some (next_on n n v.items i))
   after_is i h = after-next n n i v.items h (o.end_out, o.ring.distinct) o.end_out
+
+  -- a node more
+  pub grown_empty : (following : ℕ) → following ≡ next_on n n v.items n → following ≡ n → IsRing (n + 1) (next ++ (n + 1) ∷ []) (prev ++ (n + 1) ∷ []) v.items
+  grown_empty following e own =
+      let none : v.items ≡ [] = first_end n v.items o.end_out (sym e ∙ own) in
+      record {
+        next_len = omega (arith, length-append next ((n + 1) ∷ []), o.ring.next_len);
+        prev_len = omega (arith, length-append prev ((n + 1) ∷ []), o.ring.prev_len);
+        distinct = o.ring.distinct;
+        below = AllBelow-more n v.items o.ring.below;
+        next_is = λ j s. rw none (grind (arith, nat_tests, at_push (n + 1) next j, o.ring.next_len, rw none at (o.ring.next_is j)));
+        prev_is = λ j s. rw none (grind (arith, nat_tests, at_push (n + 1) prev j, o.ring.prev_len, rw none at (o.ring.prev_is j)));
+      }
+
+  pub grown : (before following : ℕ) → following ≡ next_on n n v.items n → before ≡ prev_on n n v.items n → eqb following n ≡ false →
+      IsRing (n + 1) (slice_set (slice_set (slice_set (next ++ (n + 1) ∷ []) (n + 1) following) before (n + 1)) n n)
+      (slice_set (slice_set (slice_set (prev ++ (n + 1) ∷ []) (n + 1) before) following (n + 1)) n n) v.items
+  grown before following e f some =
+      let low : following ≤ n = grind (arith, nat_tests, next_small n) in
+      let high : before ≤ n = grind (arith, nat_tests, prev_small n) in
+      let more_next = length-append next ((n + 1) ∷ []) in
+      let more_prev = length-append prev ((n + 1) ∷ []) in
+      let off : has (n + 1) (n ∷ v.items) ≡ false = grind (arith, nat_tests, has_beyond n (n + 1) v.items o.ring.below (omega arith)) in
+      record {
+        next_len = grind (arith, common_steps, o.ring.next_len, more_next);
+        prev_len = grind (arith, common_steps, o.ring.prev_len, more_prev);
+        distinct = o.ring.distinct;
+        below = AllBelow-more n v.items o.ring.below;
+        next_is = λ j s. grind (arith, nat_tests, three_set (next ++ (n + 1) ∷ []) (n + 1) following before (n + 1) n n j (omega (arith, o.ring.next_len)) (omega (arith, o.ring.next_len)) (omega (arith, o.ring.next_len)), at_push (n + 1) next j, o.ring.next_len, o.ring.next_is j, next_moved n (n + 1) j v.items o.ring.distinct o.end_out off);
+        prev_is = λ j s. grind (arith, nat_tests, three_set (prev ++ (n + 1) ∷ []) (n + 1) before following (n + 1) n n j (omega (arith, o.ring.prev_len)) (omega (arith, o.ring.prev_len)) (omega (arith, o.ring.prev_len)), at_push (n + 1) prev j, o.ring.prev_len, o.ring.prev_is j, prev_moved n (n + 1) j v.items o.end_out off);
+      }

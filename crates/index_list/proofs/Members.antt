@@ -42,6 +42,10 @@ pub AllBelow-push : (n i : ℕ) (xs : List ℕ) → AllBelow n xs → i < n → 
 AllBelow-push n i [] b h = (h, tt)
 AllBelow-push n i (x ∷ xs) b h = (b.0, AllBelow-push n i xs b.1 h)
 
+pub AllBelow-more : (n : ℕ) (xs : List ℕ) → AllBelow n xs → AllBelow (n + 1) xs
+AllBelow-more n [] b = tt
+AllBelow-more n (x ∷ xs) b = (omega (arith, b.0), AllBelow-more n xs b.1)
+
 pub below_from_has : (n i : ℕ) (xs : List ℕ) → AllBelow n xs → has i xs ≡ true → i < n
 below_from_has n i [] b h = cc
 below_from_has n i (x ∷ xs) b h = grind (arith, nat_tests, below_from_has n i xs b.1, b.0)

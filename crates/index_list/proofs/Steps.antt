@@ -1,5 +1,5 @@
 -- How a change of the list changes what follows a number, and what stands before it.
-use Rattle.std.proofs.Common.{◌≡◌, ℕ, true, false, not, ◌||◌, eqb, Some, None, List, [], ◌∷◌, ◌++◌, cond, arith}
+use Rattle.std.proofs.Common.{◌≡◌, ℕ, true, false, not, ◌||◌, eqb, Some, None, List, [], ◌∷◌, ◌++◌, cond, arith, refl}
 use Rattle.std.proofs.lemmas.Bool.Decides.{nat_tests}
 use Rattle.index_list.specs.Lists.{has, without, first, last, after, end_of, IsDistinct}
 use Rattle.index_list.specs.Links.{next_on, prev_on}
@@ -95,3 +95,30 @@ pub has-next : (e p i : ℕ) (l : List ℕ) → IsDistinct (p ∷ l) → has e l
 has-next e p i [] d o m n = grind (arith, nat_tests)
 has-next e p i (x ∷ xs) d o m n =
     grind (arith, nat_tests, d.0, d.1.0, has-next e x i xs d.1, next_in e x i xs)
+
+-- another number in the place of the end
+next_end_moved : (e f p j : ℕ) (l : List ℕ) → IsDistinct (p ∷ l) → next_on f p l j ≡ cond (eqb j (end_of p l)) f (next_on e p l j)
+next_end_moved e f p j [] d = grind (arith, nat_tests)
+next_end_moved e f p j (x ∷ xs) d = grind (arith, nat_tests, d.0, next_end_moved e f x j xs d.1, has-end_of x xs)
+
+prev_end_moved : (e f p j : ℕ) (l : List ℕ) → has e l ≡ false → has f l ≡ false →
+    prev_on f p l j ≡ cond (eqb j f) (end_of p l) (cond (eqb j e) e (prev_on e p l j))
+prev_end_moved e f p j [] o q = grind (arith, nat_tests)
+prev_end_moved e f p j (x ∷ xs) o q = grind (arith, nat_tests, prev_end_moved e f x j xs)
+
+-- where the end is also the start, and the list isn't empty
+pub next_moved : (e f j : ℕ) (l : List ℕ) → IsDistinct l → has e l ≡ false → has f (e ∷ l) ≡ false → eqb (next_on e e l e) e ≡ false →
+    next_on f f l j ≡ cond (eqb j e) e (cond (eqb j (prev_on e e l e)) f (cond (eqb j f) (next_on e e l e) (next_on e e l j)))
+next_moved e f j [] d o q s = absurd (grind (arith, nat_tests))
+next_moved e f j (x ∷ xs) d o q s =
+    grind (arith, nat_tests, next_end_moved e f x j xs d, prev_end e x xs, has-end_of x xs, next_off e x e xs)
+
+pub prev_moved : (e f j : ℕ) (l : List ℕ) → has e l ≡ false → has f (e ∷ l) ≡ false → eqb (next_on e e l e) e ≡ false →
+    prev_on f f l j ≡ cond (eqb j e) e (cond (eqb j (next_on e e l e)) f (cond (eqb j f) (prev_on e e l e) (prev_on e e l j)))
+prev_moved e f j [] o q s = absurd (grind (arith, nat_tests))
+prev_moved e f j (x ∷ xs) o q s = grind (arith, nat_tests, prev_end_moved e f x j xs, prev_end e x xs)
+
+-- a list that has no first is empty
+pub first_end : (e : ℕ) (l : List ℕ) → has e l ≡ false → next_on e e l e ≡ e → l ≡ []
+first_end e [] o s = refl
+first_end e (x ∷ xs) o s = absurd (grind (arith, nat_tests))

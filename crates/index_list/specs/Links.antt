@@ -19,6 +19,10 @@ walk next e p zero = []
 walk next e p (suc most) =
     if slice_index next p == e then [] else slice_index next p ∷ walk next e (slice_index next p) most
 
+-- the list that the next numbers spell, up to the end e
+abbrev pub spelled : ℕ → List ℕ → List ℕ
+spelled e next = walk next e e e
+
 -- next and prev spell the list, among n nodes and with the end n
 pub record IsRing (n : ℕ) (next prev items : List ℕ) : Type 0 where
   pub next_len : length next ≡ n + 1
@@ -27,6 +31,13 @@ pub record IsRing (n : ℕ) (next prev items : List ℕ) : Type 0 where
   pub below : AllBelow n items
   pub next_is : (j : ℕ) → j ≤ n → slice_index next j ≡ next_on n n items j
   pub prev_is : (j : ℕ) → j ≤ n → slice_index prev j ≡ prev_on n n items j
+
+-- next and prev spell the list, among the first nodes, as many as the end, and there is room for the links of all
+pub record IsLinked (nodes end : ℕ) (next prev items : List ℕ) (next_capacity prev_capacity : ℕ) : Type 0 where
+  pub ring : IsRing end next prev items
+  pub few : end ≤ nodes
+  pub next_room : next_capacity ≡ nodes + 1
+  pub prev_room : prev_capacity ≡ nodes + 1
 
 -- the lists of that many rings
 abbrev pub lists_of : List NodeList → List (List ℕ)

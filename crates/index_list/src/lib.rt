@@ -4,10 +4,11 @@
 ghost use Rattle.std.specs.Prelude.{◌≡◌, ℕ, ◌≤◌, ◌<◌, ◌+◌, ◌++◌, List, [], ◌∷◌, true, false, length, replicate, IfOk, IfSome};
 ghost use Rattle.index_list.specs.Lists.{has, without, first, last, after, list_of, with_list, IsSound};
 
-use ring::{Ring, own_numbers};
+use ring::Ring;
 use std::alloc::{AllocError, Global};
 use std::marker::Model;
 
+mod links;
 mod ring;
 
 /// `K` lists over nodes numbered from 0. A node can stand in any of them at once, and in each at most once.
@@ -31,15 +32,14 @@ impl<const K: usize> Model for Arena<K> {
 
 #[tactic(auto, using(crate::proofs::Rings::arena_steps))]
 impl<const K: usize> Arena<K> {
-    /// `K` empty lists over the nodes 0 to `n - 1`. All the memory is taken here.
+    /// `K` empty lists over the nodes 0 to `n - 1`. All the memory is reserved here.
     pub fn new(alloc: Global, n: u32) -> Result<Arena<K>, AllocError>
         ensures made { IfOk result (λ a. a ≡ record { nodes = n; lists = replicate K [] }) }
         ensures sound { IfOk result (λ a. IsSound K a) }
     {
-        let own = own_numbers(alloc, n)?;
         let mut rings = Vec::with_capacity(alloc, K)?;
         for _ in 0..K {
-            rings.push(Ring::new(alloc, n, &own)?)?;
+            rings.push(Ring::new(alloc, n)?)?;
         }
         Ok(Arena { nodes: n, rings })
     }

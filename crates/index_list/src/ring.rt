@@ -1,40 +1,38 @@
 //! One list of nodes, held as a ring of next and previous numbers.
 
-ghost use Rattle.std.specs.Prelude.{◌≡◌, ◌<◌, ◌+◌, ◌++◌, ◌==◌, List, [], ◌∷◌, ℕ, true, false, length, slice_index, if◌then◌else◌, IfOk, vec_len};
-ghost use Rattle.index_list.specs.Lists.{has, without, first, last, after, IsDistinct};
+ghost use Rattle.std.specs.Prelude.{◌≡◌, ◌<◌, ◌++◌, ◌==◌, [], ◌∷◌, true, false, if◌then◌else◌, IfOk};
+ghost use Rattle.index_list.specs.Lists.{has, without, first, last, after};
 
+use crate::links::Links;
 use std::alloc::{AllocError, Global};
 use std::marker::Model;
 
-/// A list of nodes below `end`. The node `end` closes the ring, and a node outside of the list is its own neighbour.
+/// A list of nodes below `nodes`. A node outside of the list is its own neighbour, or has no links yet.
 #[derive(Drop)]
 pub struct Ring {
-    end: u32,
-    next: Vec<u32>,
-    prev: Vec<u32>,
+    links: Links,
 }
 
 impl Model for Ring {
     ghost use Rattle.index_list.specs.Lists.{NodeList};
-    ghost use Rattle.index_list.specs.Links.{walk, IsRing};
+    ghost use Rattle.index_list.specs.Links.{spelled, IsLinked};
+    ghost use Rattle.std.specs.Prelude.{vec_capacity};
 
     ghost Value = { NodeList };
 
-    ghost view = { λ r. record { nodes = r.end; items = walk r.next.items r.end r.end r.end } };
+    ghost view = { λ r. record { nodes = r.links.nodes; items = spelled r.links.end r.links.next.items } };
 
-    ghost invariant = { λ r. IsRing r.end r.next.items r.prev.items (walk r.next.items r.end r.end r.end) };
+    ghost invariant = { λ r. IsLinked r.links.nodes r.links.end r.links.next.items r.links.prev.items (spelled r.links.end r.links.next.items)
+        (vec_capacity r.links.next) (vec_capacity r.links.prev) };
 }
 
 impl Ring {
-    /// An empty list over `n` nodes, whose links are the numbers from 0 to `n`.
-    pub fn new(alloc: Global, n: u32, own: &[u32]) -> Result<Ring, AllocError>
-        requires len { length own.now ≡ n + 1 }
-        requires own { (j : ℕ) → j < n + 1 → slice_index own.now j ≡ j }
+    /// An empty list over `n` nodes.
+    pub fn new(alloc: Global, n: u32) -> Result<Ring, AllocError>
         ensures { IfOk result (λ r. r ≡ record { nodes = n; items = [] }) }
     {
-        let next = Vec::from_slice(alloc, own)?;
-        let prev = Vec::from_slice(alloc, own)?;
-        Ok(Ring { end: n, next, prev })
+        let links = Links::new(alloc, n)?;
+        Ok(Ring { links })
     }
 
     /// Whether `i` is in the list: then another number follows it.
@@ -42,7 +40,7 @@ impl Ring {
         requires { i < self.now.nodes }
         ensures { result ≡ has i self.now.items }
     {
-        self.next[i as usize] != i
+        i < self.links.end && self.links.next[i as usize] != i
     }
 
     /// The first node.
@@ -50,14 +48,14 @@ impl Ring {
     pub fn front(&self) -> Option<u32>
         ensures { result ≡ first self.now.items }
     {
-        node_before_end(self.next[self.end as usize], self.end)
+        node_before_end(self.links.next[self.links.end as usize], self.links.end)
     }
 
     /// The last node.
     pub fn back(&self) -> Option<u32>
         ensures { result ≡ last self.now.items }
     {
-        node_before_end(self.prev[self.end as usize], self.end)
+        node_before_end(self.links.prev[self.links.end as usize], self.links.end)
     }
 
     /// The node after `i`, which is in the list.
@@ -65,7 +63,7 @@ impl Ring {
         requires { has i self.now.items ≡ true }
         ensures { result ≡ after i self.now.items }
     {
-        node_before_end(self.next[i as usize], self.end)
+        node_before_end(self.links.next[i as usize], self.links.end)
     }
 
     /// Puts `i`, which isn't in the list, at its front.
@@ -74,12 +72,13 @@ impl Ring {
         requires fresh { has i self.old.items ≡ false }
         ensures { self.new ≡ record self.old { items = i ∷ self.old.items } }
     {
-        let end = self.end;
-        let following = self.next[end as usize];
-        self.next[end as usize] = i;
-        self.next[i as usize] = following;
-        self.prev[following as usize] = i;
-        self.prev[i as usize] = end;
+        self.links.reach(i);
+        let end = self.links.end;
+        let following = self.links.next[end as usize];
+        self.links.next[end as usize] = i;
+        self.links.next[i as usize] = following;
+        self.links.prev[following as usize] = i;
+        self.links.prev[i as usize] = end;
     }
 
     /// Puts `i`, which isn't in the list, at its back.
@@ -88,12 +87,13 @@ impl Ring {
         requires fresh { has i self.old.items ≡ false }
         ensures { self.new ≡ record self.old { items = self.old.items ++ i ∷ [] } }
     {
-        let end = self.end;
-        let preceding = self.prev[end as usize];
-        self.prev[end as usize] = i;
-        self.prev[i as usize] = preceding;
-        self.next[preceding as usize] = i;
-        self.next[i as usize] = end;
+        self.links.reach(i);
+        let end = self.links.end;
+        let preceding = self.links.prev[end as usize];
+        self.links.prev[end as usize] = i;
+        self.links.prev[i as usize] = preceding;
+        self.links.next[preceding as usize] = i;
+        self.links.next[i as usize] = end;
     }
 
     /// Takes `i` out of the list.
@@ -103,12 +103,12 @@ impl Ring {
         ensures below { i < self.old.nodes }
         ensures gone { has i self.new.items ≡ false }
     {
-        let preceding = self.prev[i as usize];
-        let following = self.next[i as usize];
-        self.next[preceding as usize] = following;
-        self.prev[following as usize] = preceding;
-        self.next[i as usize] = i;
-        self.prev[i as usize] = i;
+        let preceding = self.links.prev[i as usize];
+        let following = self.links.next[i as usize];
+        self.links.next[preceding as usize] = following;
+        self.links.prev[following as usize] = preceding;
+        self.links.next[i as usize] = i;
+        self.links.prev[i as usize] = i;
     }
 }
 
@@ -117,12 +117,4 @@ fn node_before_end(link: u32, end: u32) -> Option<u32>
     ensures { result ≡ (if link == end then None else Some link) }
 {
     (link != end).then_some(link)
-}
-
-/// The numbers from 0 to `n`, both included: the links of an empty ring.
-pub fn own_numbers(alloc: Global, n: u32) -> Result<Vec<u32>, AllocError>
-    ensures len { IfOk result (λ v. length v.items ≡ n + 1) }
-    ensures own { IfOk result (λ v. (j : ℕ) → j < n + 1 → slice_index v.items j ≡ j) }
-{
-    (0..=n).collect(alloc)
 }

@@ -1,5 +1,5 @@
 -- What a cache's slots say of its lines, and after each change of the slots.
-use Rattle.std.proofs.Common.{◌≡◌, ℕ, zero, suc, ◌<◌, ◌≤◌, Bool, true, false, cond, eqb, nat_lt, Option, Some, None, is_some, List, [], ◌∷◌, length, map, refl, sym, ap, inl, inr, ◌∙◌, arith, slice_index_or, slice_set}
+use Rattle.std.proofs.Common.{◌≡◌, ℕ, zero, suc, ◌<◌, ◌≤◌, Bool, true, false, cond, eqb, nat_lt, Option, Some, None, is_some, List, [], ◌∷◌, ◌++◌, length, map, refl, sym, ap, inl, inr, ◌∙◌, arith, slice_index_or, slice_set}
 use Rattle.std.specs.List.{slice_get}
 use Rattle.std.proofs.lemmas.Bool.Decides.{nat_tests}
 use Rattle.std.proofs.lemmas.Bool.{cases_eq, eq-eqb, ne_eqb}
@@ -9,11 +9,11 @@ use Rattle.index_list.specs.Lists.{has, without, IsDistinct}
 use Rattle.index_list.proofs.Members.{has-without}
 use Rattle.lru_cache.specs.Order.{LineOrders, set_of, recent_in, marked_in, list_with, order_after_use, order_after_drop, order_after_store, order_after_write_back, order_after_mark}
 use Rattle.lru_cache.specs.Cache.{CacheView, is_resident, is_dirty, is_marked, is_leaving, after_write_back, after_drop, after_use, after_change, after_mark, after_mark_leaving}
-use Rattle.lru_cache.specs.SlotMap.{SlotMap, slot_at, line_in, has_slot, with_taken, with_released}
+use Rattle.lru_cache.specs.SlotMap.{SlotMap, slot_at, line_in, has_slot, with_added, with_taken, with_released}
 use Rattle.lru_cache.specs.InSlots.{with_used, with_dropped, flag_at, orders_named, cache_of, IsInSlots}
 use Rattle.lru_cache.proofs.Splits.{same_orders}
 use Rattle.lru_cache.proofs.Places.{at_put, put_same}
-use Rattle.lru_cache.proofs.Tables.{within, held_below, no_slot}
+use Rattle.lru_cache.proofs.Tables.{within, default_push, held_below, held_there, no_slot, line_added}
 use Rattle.lru_cache.proofs.Named.{has-map, list-map, agree, each_agree, has-named, without-named, with-named, each-without-named, distinct_from_map, map-put}
 
 pub same_cache : (n : ℕ) (c d : List (Option (List ℕ))) (f g : List Bool) (o p : LineOrders) → c ≡ d → f ≡ g → o ≡ p →
@@ -46,6 +46,12 @@ get_put (x ∷ xs) zero zero b h = refl
 get_put (x ∷ xs) zero (suc j) b h = grind (arith, nat_tests)
 get_put (x ∷ xs) (suc i) zero b h = grind (arith, nat_tests)
 get_put (x ∷ xs) (suc i) (suc j) b h = grind (arith, nat_tests, get_put xs i j b (omega arith))
+
+get_push : (copies : List (List ℕ)) (bytes : List ℕ) (k : ℕ) → eqb k (length copies) ≡ false → slice_get (copies ++ bytes ∷ []) k ≡ slice_get copies k
+get_push [] bytes zero other = absurd (grind (arith, nat_tests))
+get_push [] bytes (suc k) other = refl
+get_push (x ∷ xs) bytes zero other = refl
+get_push (x ∷ xs) bytes (suc k) other = get_push xs bytes k (grind (arith, nat_tests))
 
 -- one slot's orders change, and those of its line with them
 module _ (s : SlotMap) (o : LineOrders) (slot line : ℕ) where
@@ -112,14 +118,14 @@ module _ (capacity resident : ℕ) (s : SlotMap) (copies : List (List ℕ)) (fla
 
   pub copy_of : (line : ℕ) → slice_index_or (cache_of capacity s copies flags o).copies line None ≡ slice_get copies (slot_at s line)
   unfolding cache_of
-  copy_of line = at_copies s.slots copies (length s.lines) line (omega (arith, h.copied))
+  copy_of line = at_copies s.slots copies s.most line (omega (arith, h.copied, h.slots.few))
 
   pub resident_of : (line : ℕ) → is_resident (cache_of capacity s copies flags o) line ≡ has_slot s line
   resident_of line = ap (λ (copy : Option (List ℕ)). is_some copy) (copy_of line) ∙ some_within copies (slot_at s line) ∙ rw h.copied refl
 
   pub leaving_of : (line : ℕ) → is_leaving (cache_of capacity s copies flags o) line ≡ flag_at flags (slot_at s line)
   unfolding cache_of
-  leaving_of line = at_flags s.slots flags (length s.lines) line (omega (arith, h.flagged))
+  leaving_of line = at_flags s.slots flags s.most line (omega (arith, h.flagged, h.slots.few))
 
   pub recent_of : (k : ℕ) → recent_in (cache_of capacity s copies flags o).orders k ≡ map (line_in s) (recent_in o k)
   unfolding cache_of orders_named
@@ -142,7 +148,7 @@ module _ (capacity resident : ℕ) (s : SlotMap) (copies : List (List ℕ)) (fla
 
   -- each slot in an order has a line
   pub line_used : (line : ℕ) → is_resident (cache_of capacity s copies flags o) line ≡ true → line < length s.slots
-  line_used line there = within (length s.lines) s.slots line (held_below s line (sym (resident_of line) ∙ there))
+  line_used line there = held_there s line h.slots (sym (resident_of line) ∙ there)
 
   pub used_recent : (k x : ℕ) → has x (recent_in o k) ≡ true → line_in s x < length s.slots
   used_recent k x there =
@@ -177,7 +183,7 @@ module _ (capacity resident : ℕ) (s : SlotMap) (copies : List (List ℕ)) (fla
     back = h.slots.line_back line (held_below s line held)
 
     pub line_below : line < length s.slots
-    line_below = within (length s.lines) s.slots line (held_below s line held)
+    line_below = held_there s line h.slots held
 
     pub has_recent : (k : ℕ) → has line (recent_in (cache_of capacity s copies flags o).orders k) ≡ has (slot_at s line) (recent_in o k)
     has_recent k = rw (recent_of k) (has-named (line_in s) (slot_at s line) line (recent_in o k) (own_recent k))
@@ -191,7 +197,7 @@ module _ (capacity resident : ℕ) (s : SlotMap) (copies : List (List ℕ)) (fla
     -- which line has the slot
     own_slot : (j : ℕ) → j < length s.slots → eqb (slice_index_or s.slots j 0) (slot_at s line) ≡ eqb j line
     own_slot j low =
-        let same = get_or_default s.slots j 0 (length s.lines) low in
+        let same = get_or_default s.slots j 0 s.most low in
         grind (arith, nat_tests, h.slots.line_back line, h.slots.line_back j)
 
     copies_put : (bytes : List ℕ) → map (slice_get (slice_set copies (slot_at s line) bytes)) s.slots ≡ slice_set (map (slice_get copies) s.slots) line (Some bytes)
@@ -232,7 +238,7 @@ module _ (capacity resident : ℕ) (s : SlotMap) (copies : List (List ℕ)) (fla
     -- a drop frees the slot
     released_line : (x : ℕ) → eqb (slot_at s line) x ≡ false → line_in (with_released line (slot_at s line) s) x ≡ line_in s x
     released_line x other =
-        let tall = length-set s.slots line (length s.lines) in
+        let tall = length-set s.slots line s.most in
         rw tall (grind (arith, nat_tests, at_put (length s.slots) (length s.slots) s.lines (slot_at s line) x (held_below s line held)))
 
     dropped_recent : (k x : ℕ) → has x (recent_in (with_dropped (set_of line) (slot_at s line) o) k) ≡ true → eqb (slot_at s line) x ≡ false
@@ -245,7 +251,7 @@ module _ (capacity resident : ℕ) (s : SlotMap) (copies : List (List ℕ)) (fla
         cache_of capacity (with_released line (slot_at s line) s) copies flags (with_dropped (set_of line) (slot_at s line) o) ≡ after_drop line (cache_of capacity s copies flags o)
     unfolding cache_of
     dropped_is clean =
-        let tall = length-set s.slots line (length s.lines) in
+        let tall = length-set s.slots line s.most in
         let dry : has (slot_at s line) o.dirty ≡ false = sym has_dirty ∙ clean in
         let unmarked : (k : ℕ) → has (slot_at s line) (marked_in o k) ≡ false = λ k. grind (arith, nat_tests, has_marked k, h.held.sound.marked k line) in
         let names : orders_named (with_released line (slot_at s line) s) (with_dropped (set_of line) (slot_at s line) o) ≡ orders_named s (with_dropped (set_of line) (slot_at s line) o) =
@@ -253,14 +259,41 @@ module _ (capacity resident : ℕ) (s : SlotMap) (copies : List (List ℕ)) (fla
         (λ k x there. released_line x (dropped_recent k x there))
         (λ x there. released_line x (grind (arith, nat_tests)))
         (λ k x there. released_line x (grind (arith, nat_tests, unmarked k))) in
-        let flag : flag_at flags (length s.lines) ≡ false = get_or_past flags (length s.lines) false (omega (arith, h.flagged)) in
+        let flag : flag_at flags s.most ≡ false = get_or_past flags s.most false (omega (arith, h.flagged, h.slots.few)) in
         let stays : is_leaving (cache_of capacity s copies flags o) line ≡ false = grind (arith, nat_tests, h.held.sound.leaves line) in
-        same_cache capacity (map (slice_get copies) (slice_set s.slots line (length s.lines))) (slice_set (map (slice_get copies) s.slots) line None)
-        (map (flag_at flags) (slice_set s.slots line (length s.lines))) (map (flag_at flags) s.slots)
+        same_cache capacity (map (slice_get copies) (slice_set s.slots line s.most)) (slice_set (map (slice_get copies) s.slots) line None)
+        (map (flag_at flags) (slice_set s.slots line s.most)) (map (flag_at flags) s.slots)
         (orders_named (with_released line (slot_at s line) s) (with_dropped (set_of line) (slot_at s line) o)) (order_after_drop line (orders_named s o))
-        (map-set (slice_get copies) s.slots line (length s.lines) ∙ ap (λ (copy : Option (List ℕ)). slice_set (map (slice_get copies) s.slots) line copy) (slice_get_past copies (length s.lines) (omega (arith, h.copied))))
-        (map-set (flag_at flags) s.slots line (length s.lines) ∙ put_same false (flag_at flags (length s.lines)) (map (flag_at flags) s.slots) line (stays ∙ sym flag))
+        (map-set (slice_get copies) s.slots line s.most ∙ ap (λ (copy : Option (List ℕ)). slice_set (map (slice_get copies) s.slots) line copy) (slice_get_past copies s.most (omega (arith, h.copied, h.slots.few))))
+        (map-set (flag_at flags) s.slots line s.most ∙ put_same false (flag_at flags s.most) (map (flag_at flags) s.slots) line (stays ∙ sym flag))
         (names ∙ named_dropped s o (slot_at s line) line (set_of line) (own_recent (set_of line)))
+
+  -- a slot more changes nothing of the lines
+  copies_added : (bytes : List ℕ) (slots : List ℕ) → ((j : ℕ) → j < length slots → eqb (slice_index_or slots j 0) (length copies) ≡ false) →
+      map (slice_get (copies ++ bytes ∷ [])) slots ≡ map (slice_get copies) slots
+  copies_added bytes [] other = refl
+  copies_added bytes (x ∷ xs) other =
+      let here : slice_get (copies ++ bytes ∷ []) x ≡ slice_get copies x = get_push copies bytes x (other 0 (omega arith)) in
+      let rest : map (slice_get (copies ++ bytes ∷ [])) xs ≡ map (slice_get copies) xs = copies_added bytes xs (λ j low. other (suc j) (omega arith)) in
+      cc
+
+  flags_added : (slots : List ℕ) → map (flag_at (flags ++ false ∷ [])) slots ≡ map (flag_at flags) slots
+  flags_added [] = refl
+  flags_added (x ∷ xs) =
+      let here : flag_at (flags ++ false ∷ []) x ≡ flag_at flags x = default_push false flags x in
+      let rest : map (flag_at (flags ++ false ∷ [])) xs ≡ map (flag_at flags) xs = flags_added xs in
+      cc
+
+  pub added_is : (bytes : List ℕ) → length s.lines < s.most →
+      cache_of capacity (with_added s) (copies ++ bytes ∷ []) (flags ++ false ∷ []) o ≡ cache_of capacity s copies flags o
+  unfolding cache_of
+  added_is bytes room =
+      let other : (j : ℕ) → j < length s.slots → eqb (slice_index_or s.slots j 0) (length copies) ≡ false =
+      λ j low. let same = get_or_default s.slots j 0 s.most low in grind (arith, nat_tests, h.copied, h.slots.added j) in
+      same_cache capacity (map (slice_get (copies ++ bytes ∷ [])) s.slots) (map (slice_get copies) s.slots)
+      (map (flag_at (flags ++ false ∷ [])) s.slots) (map (flag_at flags) s.slots) (orders_named (with_added s) o) (orders_named s o)
+      (copies_added bytes s.slots other) (flags_added s.slots)
+      (renamed s (with_added s) o refl (λ k x there. line_added s x) (λ x there. line_added s x) (λ k x there. line_added s x))
 
   -- a line that has none gets a free slot
   module _ (line slot : ℕ) (there : line < length s.slots) (absent : has_slot s line ≡ false) (below : slot < length s.lines) (free : line_in s slot ≡ length s.slots) where
@@ -275,7 +308,7 @@ module _ (capacity resident : ℕ) (s : SlotMap) (copies : List (List ℕ)) (fla
 
     taken_slot : (j : ℕ) → j < length s.slots → eqb (slice_index_or (slice_set s.slots line slot) j 0) slot ≡ eqb j line
     taken_slot j low =
-        let same = get_or_default s.slots j 0 (length s.lines) low in
+        let same = get_or_default s.slots j 0 s.most low in
         grind (arith, nat_tests, at_put 0 slot s.slots line j there, h.slots.line_back j)
 
     taken_at : {A : Type 0} (v : A) (g : ℕ → A) (j : ℕ) → j < length s.slots →

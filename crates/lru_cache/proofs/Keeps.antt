@@ -11,9 +11,6 @@ use Rattle.lru_cache.specs.Cache.{CacheView, IsCache, HasResident, is_resident, 
 use Rattle.lru_cache.proofs.Places.{at_put, at_cleared, put_same, at_map_without, map_without_absent, has-list_with}
 
 -- how many lines are resident after a use, and after a drop
-set_below : (line : ℕ) → set_of line < 8
-set_below line = omega arith
-
 pub count_used : (o : LineOrders) (line : ℕ) → IsOrdered o → has line (recent_in o (set_of line)) ≡ true →
     resident_count (order_after_use line o) ≡ resident_count o
 count_used o line s h =

@@ -160,9 +160,6 @@ module _ (c : CacheView) (s : IsCache c) (lines : List (List ℕ)) (o : IsOver c
         (grind (arith, nat_tests, at, has-list_with j line c.orders.dirty, o.clean j));
   }
 
-  pub nothing_written_to : is_dirty c line ≡ false → written_back line c lines ≡ lines
-  nothing_written_to dry = put_same [] (line_at (shown c lines) line) lines line (sym (o.clean line dry))
-
 -- the bytes of a copy
 pub shown_copy : (copies : List (Option (List ℕ))) (lines : List (List ℕ)) (i : ℕ) (bytes : List ℕ) → i < length lines →
     slice_index_or copies i None ≡ Some bytes → bytes ≡ line_at (copied_over copies lines) i

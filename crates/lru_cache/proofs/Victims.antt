@@ -1,5 +1,5 @@
 -- The line that a use evicts: it is resident, and where there is none there is room.
-use Rattle.std.proofs.Common.{◌≡◌, ℕ, zero, suc, ◌+◌, ◌<◌, ◌≤◌, Bool, true, Option, Some, None, IfSome, IfNone, List, [], ◌∷◌, length, refl, add-one, sym, ◌∙◌, arith, slice_index_or, drop, sum_by}
+use Rattle.std.proofs.Common.{◌≡◌, ℕ, zero, suc, ◌+◌, ◌<◌, ◌≤◌, Bool, true, Option, Some, None, IfSome, List, [], ◌∷◌, length, refl, add-one, ◌∙◌, arith, slice_index_or, drop, sum_by}
 use Rattle.std.specs.Option.{option_or}
 use Rattle.std.proofs.lemmas.Bool.Decides.{nat_tests}
 use Rattle.std.proofs.lemmas.List.Sums.{sum_by-cons}
@@ -7,7 +7,7 @@ use Rattle.index_list.specs.Lists.{has, last, end_of}
 use Rattle.index_list.proofs.Members.{has-end_of}
 use Rattle.lru_cache.specs.Order.{recent_in, resident_count, oldest_of_first, order_after_drop}
 use Rattle.lru_cache.specs.Cache.{CacheView, IsCache, is_resident}
-use Rattle.lru_cache.proofs.Keeps.{count_dropped, in_set, resident_below}
+use Rattle.lru_cache.proofs.Keeps.{count_dropped, in_set}
 
 -- one more set was looked at
 oldest-drop_suc : (sets : List (List ℕ)) (i : ℕ) → i < length sets →
@@ -71,14 +71,6 @@ module _ (c : CacheView) (s : IsCache c) where
   -- a full cache has a line
   pub room_from_none : oldest_of_first c.orders.recency ≡ None → resident_count c.orders + 1 ≤ c.capacity
   room_from_none none = omega (arith, none_oldest c.orders.recency none, s.some)
-
-  pub there_if : (o : Option ℕ) → IfSome o (λ v. is_resident c v ≡ true) → IfSome o (λ v. v < c.orders.lines)
-  there_if None h = tt
-  there_if (Some v) h = resident_below c s v h
-
-  pub room_if : (A : Type 0) (o : Option ℕ) → o ≡ oldest_of_first c.orders.recency → IfNone o (A → resident_count c.orders + 1 ≤ c.capacity)
-  room_if A None e = λ _. room_from_none (sym e)
-  room_if A (Some v) e = tt
 
   pub room_evicted : (v : ℕ) → is_resident c v ≡ true → resident_count (order_after_drop v c.orders) + 1 ≤ c.capacity
   room_evicted v there = omega (arith, s.fits, count_dropped c.orders v s.ordered (in_set c s v ∙ there))

@@ -41,7 +41,11 @@ pub record IsInSlots (capacity resident : ℕ) (s : SlotMap) (copies : List (Lis
   pub slots : IsSlotMap s
   pub copied : length copies ≡ length s.lines
   pub flagged : length flags ≡ length s.lines
-  pub nodes : o.lines ≡ length s.lines
-  pub count : length s.lines ≡ min capacity (length s.slots)
+  pub nodes : o.lines ≡ s.most
+  pub count : s.most ≡ min capacity (length s.slots)
   pub room : resident + s.free ≡ length s.lines
   pub held : HasResident (cache_of capacity s copies flags o) resident
+
+-- a table has something for each slot, and room for all slots that there can be
+abbrev pub IsBySlot : SlotMap → ℕ → ℕ → Type 0
+IsBySlot s count capacity = (count ≡ length s.lines) × (capacity ≡ s.most)

@@ -3,19 +3,20 @@
 //! The medium is lent to each call, and it is the same one each time. Addresses count its bytes from the first line's start.
 #![tactic(auto)]
 
-ghost use Rattle.std.specs.Prelude.{◌≡◌, ◌↔◌, ℕ, ◌<◌, ◌≤◌, ◌+◌, ◌*◌, ◌/◌, ◌%◌, List, Some, None, Option, true, false, length, replicate, slice_index, slice_index_or, slice_set, IfOk, IfErr, IfSome, IfNone};
+ghost use Rattle.std.specs.Prelude.{◌≡◌, ◌↔◌, ℕ, ◌<◌, ◌≤◌, ◌+◌, ◌*◌, ◌/◌, ◌%◌, vec_len, vec_capacity, List, Some, None, Option, true, false, length, replicate, slice_index, slice_index_or, slice_set, IfOk, IfErr, IfSome, IfNone};
 ghost use Rattle.std.specs.Option.{option_or};
 ghost use Rattle.index_list.specs.Lists.{first, last, has};
 ghost use Rattle.word_bits.specs.Bytes.{loaded, stored};
 ghost use Rattle.line_memory.specs.Lines.{line_at, line_bytes, IsMedium};
 ghost use Rattle.line_memory.specs.Memory.{IsWidth, loaded_from, stored_to};
-ghost use Rattle.lru_cache.specs.Order.{IsOrdered, marked_in, recent_in, resident_count, set_of, oldest_of_first};
+ghost use Rattle.lru_cache.specs.Order.{LineOrders, IsOrdered, marked_in, recent_in, resident_count, set_of, oldest_of_first};
+ghost use Rattle.lru_cache.specs.InSlots.{cache_of, IsInSlots, IsBySlot};
 ghost use Rattle.lru_cache.specs.Cache.{CacheView, IsCache, IsOver, shown, is_resident, is_dirty, is_marked, is_leaving, victim, empty_cache, after_write_back, after_drop, after_eviction, after_forced, after_use, after_load, after_change, after_mark, after_mark_leaving, written_back, written_by_forced};
 
 use line_memory::{LINE_SIZE, Medium, MediumFault, load_bytes, store_bytes};
 use orders::{Orders, SETS};
 use slots::Slots;
-use std::alloc::{AllocError, Global};
+use std::alloc::Global;
 use std::marker::Model;
 
 mod orders;
@@ -42,13 +43,15 @@ pub struct Cache {
 
 impl Model for Cache {
     ghost use Rattle.lru_cache.specs.Cache.{CacheView};
-    ghost use Rattle.lru_cache.specs.InSlots.{cache_of, IsInSlots};
+    ghost use Rattle.lru_cache.specs.InSlots.{cache_of, IsInSlots, IsBySlot};
+    ghost use Rattle.std.specs.Prelude.{vec_len, vec_capacity};
 
     ghost Value = { CacheView };
 
     ghost view = { λ c. cache_of c.capacity c.slots c.copies.items c.leaving.items c.orders };
 
-    ghost invariant = { λ c. IsInSlots c.capacity c.resident c.slots c.copies.items c.leaving.items c.orders };
+    ghost invariant = { λ c. IsInSlots c.capacity c.resident c.slots c.copies.items c.leaving.items c.orders
+        × (IsBySlot c.slots (vec_len c.copies) (vec_capacity c.copies) × IsBySlot c.slots (vec_len c.leaving) (vec_capacity c.leaving)) };
 }
 
 impl Cache {
@@ -60,11 +63,11 @@ impl Cache {
         ensures over { IfOk result (λ cache. (medium : List (List ℕ)) → IsMedium medium → length medium ≡ lines → IsOver cache medium) }
         ensures err { IfErr result (λ fault. fault ≡ MediumFault.Memory) }
     {
-        let count = capacity.min(lines);
-        let slots = Slots::new(alloc, count, lines)?;
-        let orders = Orders::new(alloc, count)?;
-        let copies = empty_copies(alloc, count)?;
-        let leaving = no_flags(alloc, count)?;
+        let most = capacity.min(lines);
+        let slots = Slots::new(alloc, most, lines)?;
+        let orders = Orders::new(alloc, most)?;
+        let copies = Vec::with_capacity(alloc, most as usize)?;
+        let leaving = Vec::with_capacity(alloc, most as usize)?;
         Ok(Cache {
             capacity,
             resident: 0,
@@ -420,6 +423,7 @@ impl Cache {
         ensures changed { self.new ≡ after_use line bytes self.old }
         ensures sound { IsCache self.new }
     {
+        see_free(&mut self.slots, &mut self.copies, &mut self.leaving);
         let slot = self.slots.take(line);
         self.copies[slot as usize] = bytes;
         // the invariant says nothing of the flags of free slots
@@ -518,18 +522,37 @@ fn lowest_oldest(orders: &Orders) -> Option<u32>
     None
 }
 
-fn empty_copies(alloc: Global, slots: u32) -> Result<Vec<[u8; LINE_SIZE]>, AllocError>
-    ensures { IfOk result (λ copies. copies.items ≡ replicate slots (replicate 64 0)) }
+/// Makes sure that a slot is free. The cache stays what it is.
+#[inline(always)]
+fn see_free(slots: &mut Slots, copies: &mut Vec<[u8; LINE_SIZE]>, leaving: &mut Vec<bool>)
+    requires room { slots.old.free ≡ 0 → length slots.old.lines < slots.old.most }
+    requires copies { IsBySlot slots.old (vec_len copies.old) (vec_capacity copies.old) }
+    requires flags { IsBySlot slots.old (vec_len leaving.old) (vec_capacity leaving.old) }
+    ensures free { 0 < slots.new.free }
+    ensures tables { IsBySlot slots.new (vec_len copies.new) (vec_capacity copies.new) × IsBySlot slots.new (vec_len leaving.new) (vec_capacity leaving.new) }
+    ensures stays { (capacity resident : ℕ) (orders : LineOrders) → IsInSlots capacity resident slots.old copies.old.items leaving.old.items orders →
+        IsInSlots capacity resident slots.new copies.new.items leaving.new.items orders
+        × (cache_of capacity slots.new copies.new.items leaving.new.items orders ≡ cache_of capacity slots.old copies.old.items leaving.old.items orders) }
 {
-    let mut copies = Vec::new(alloc);
-    copies.resize(slots as usize, [0; LINE_SIZE])?;
-    Ok(copies)
+    if !slots.has_free() {
+        add_slot(slots, copies, leaving);
+    }
 }
 
-fn no_flags(alloc: Global, slots: u32) -> Result<Vec<bool>, AllocError>
-    ensures { IfOk result (λ flags. flags.items ≡ replicate slots false) }
+/// Adds a slot, which is free. The cache stays what it is.
+#[cold]
+#[inline(never)]
+fn add_slot(slots: &mut Slots, copies: &mut Vec<[u8; LINE_SIZE]>, leaving: &mut Vec<bool>)
+    requires room { length slots.old.lines < slots.old.most }
+    requires copies { IsBySlot slots.old (vec_len copies.old) (vec_capacity copies.old) }
+    requires flags { IsBySlot slots.old (vec_len leaving.old) (vec_capacity leaving.old) }
+    ensures free { 0 < slots.new.free }
+    ensures tables { IsBySlot slots.new (vec_len copies.new) (vec_capacity copies.new) × IsBySlot slots.new (vec_len leaving.new) (vec_capacity leaving.new) }
+    ensures stays { (capacity resident : ℕ) (orders : LineOrders) → IsInSlots capacity resident slots.old copies.old.items leaving.old.items orders →
+        IsInSlots capacity resident slots.new copies.new.items leaving.new.items orders
+        × (cache_of capacity slots.new copies.new.items leaving.new.items orders ≡ cache_of capacity slots.old copies.old.items leaving.old.items orders) }
 {
-    let mut flags = Vec::new(alloc);
-    flags.resize(slots as usize, false)?;
-    Ok(flags)
+    slots.add();
+    copies.push_reserved([0; LINE_SIZE]);
+    leaving.push_reserved(false);
 }

@@ -39,7 +39,7 @@ impl Model for Orders {
 
 #[tactic(auto, using(crate::proofs::Splits::split_steps))]
 impl Orders {
-    /// Orders of `slots` slots, of which none stands anywhere. All the memory is taken here.
+    /// Orders of `slots` slots, of which none stands anywhere. All the memory is reserved here.
     pub fn new(alloc: Global, slots: u32) -> Result<Orders, AllocError>
         ensures made { IfOk result (λ o. o ≡ empty_orders slots) }
         ensures sound { IfOk result (λ o. IsOrdered o) }
@@ -110,6 +110,7 @@ impl Orders {
     }
 
     /// Makes the slot the most recently used of a set.
+    #[inline(always)]
     pub fn note_use(&mut self, set: u32, slot: u32)
         requires set { set < 8 }
         requires slot { slot < self.old.lines }

@@ -1,53 +1,73 @@
 //! Which line stands in which slot of a cache: the few lines that have one, each its own.
 
-ghost use Rattle.std.specs.Prelude.{◌≡◌, ℕ, ◌+◌, ◌<◌, ◌≤◌, true, false, List, length, replicate, slice_index, slice_index_or, IfOk, IfSome, IfNone};
-ghost use Rattle.lru_cache.specs.SlotMap.{SlotMap, IsSlotMap, slot_at, line_in, has_slot, no_slots, with_taken, with_released};
+ghost use Rattle.std.specs.Prelude.{◌≡◌, ◌+◌, ◌<◌, ◌≤◌, true, false, length, nat_lt, replicate, IfOk, IfSome, IfNone};
+ghost use Rattle.lru_cache.specs.SlotMap.{IsSlotMap, slot_at, line_in, has_slot, no_slots, with_added, with_taken, with_released};
 
 use std::alloc::{AllocError, Global};
 use std::marker::Model;
 
-/// Slots numbered from 0, of which each has a line or is free. After making, no call takes memory, and none searches.
+/// Slots numbered from 0, of which each has a line or is free. None is there at first, and those that are never added
+/// cost nothing: their room is reserved, so that no later call takes memory. No call searches.
 #[derive(Drop)]
 pub struct Slots {
-    count: u32,
+    most: u32,
     lines: u32,
-    /// By line, its slot, or `count` where it has none.
+    /// By line, its slot, or `most` where it has none.
     slot_of: Vec<u32>,
     /// By slot, its line, or `lines` where it is free.
     line_of: Vec<u32>,
-    /// The free slots, as a stack of `free_count`.
+    /// The free slots, as a stack.
     free: Vec<u32>,
-    free_count: u32,
 }
 
 impl Model for Slots {
     ghost use Rattle.lru_cache.specs.SlotMap.{SlotMap, IsTable};
+    ghost use Rattle.std.specs.Prelude.{length, vec_capacity};
 
     ghost Value = { SlotMap };
 
-    ghost view = { λ s. record { slots = s.slot_of.items; lines = s.line_of.items; free = s.free_count } };
+    ghost view = { λ s. record { most = s.most; slots = s.slot_of.items; lines = s.line_of.items; free = length s.free.items } };
 
-    ghost invariant = { λ s. IsTable s.count s.lines (record { slots = s.slot_of.items; lines = s.line_of.items; free = s.free_count }) s.free.items };
+    ghost invariant = { λ s. IsTable s.lines (record { most = s.most; slots = s.slot_of.items; lines = s.line_of.items; free = length s.free.items }) s.free.items
+        (vec_capacity s.line_of) (vec_capacity s.free) };
 }
 
 #[tactic(auto, using(crate::proofs::Tables::table_steps))]
 impl Slots {
-    /// `count` free slots, for `lines` lines. All the memory is taken here.
-    pub fn new(alloc: Global, count: u32, lines: u32) -> Result<Slots, AllocError>
-        ensures made { IfOk result (λ s. s ≡ no_slots count lines) }
+    /// No slots yet, and room for `most`, for `lines` lines.
+    pub fn new(alloc: Global, most: u32, lines: u32) -> Result<Slots, AllocError>
+        ensures made { IfOk result (λ s. s ≡ no_slots most lines) }
         ensures sound { IfOk result (λ s. IsSlotMap s) }
     {
-        let slot_of = repeated(alloc, count, lines)?;
-        let line_of = repeated(alloc, lines, count)?;
-        let free = numbers(alloc, count)?;
+        let slot_of = repeated(alloc, most, lines)?;
+        let line_of = Vec::with_capacity(alloc, most as usize)?;
+        let free = Vec::with_capacity(alloc, most as usize)?;
         Ok(Slots {
-            count,
+            most,
             lines,
             slot_of,
             line_of,
             free,
-            free_count: count,
         })
+    }
+
+    /// Whether a slot is free.
+    #[inline(always)]
+    pub fn has_free(&self) -> bool
+        ensures { result ≡ nat_lt 0 self.now.free }
+    {
+        !self.free.is_empty()
+    }
+
+    /// Adds a slot, which is free.
+    pub fn add(&mut self)
+        requires { length self.old.lines < self.old.most }
+        ensures changed { self.new ≡ with_added self.old }
+        ensures sound { IsSlotMap self.new }
+    {
+        let added = self.line_of.len() as u32;
+        self.line_of.push_reserved(self.lines);
+        self.free.push_reserved(added);
     }
 
     /// The line's slot, or `None` where it has none.
@@ -59,7 +79,7 @@ impl Slots {
         ensures none { IfNone result (has_slot self.now line ≡ false) }
     {
         let slot = self.slot_of[line as usize];
-        if slot < self.count { Some(slot) } else { None }
+        if slot < self.most { Some(slot) } else { None }
     }
 
     /// The slot of a line that has one.
@@ -90,8 +110,9 @@ impl Slots {
         ensures changed { self.new ≡ with_taken line result self.old }
         ensures sound { IsSlotMap self.new }
     {
-        self.free_count -= 1;
-        let slot = self.free[self.free_count as usize];
+        let Some(slot) = self.free.pop() else {
+            unreachable!()
+        };
         self.slot_of[line as usize] = slot;
         self.line_of[slot as usize] = line;
         slot
@@ -105,10 +126,9 @@ impl Slots {
         ensures sound { IsSlotMap self.new }
     {
         let slot = self.slot_of[line as usize];
-        self.slot_of[line as usize] = self.count;
+        self.slot_of[line as usize] = self.most;
         self.line_of[slot as usize] = self.lines;
-        self.free[self.free_count as usize] = slot;
-        self.free_count += 1;
+        self.free.push_reserved(slot);
     }
 }
 
@@ -119,12 +139,4 @@ fn repeated(alloc: Global, number: u32, times: u32) -> Result<Vec<u32>, AllocErr
     let mut numbers = Vec::new(alloc);
     numbers.resize(times as usize, number)?;
     Ok(numbers)
-}
-
-/// The numbers below `count`.
-fn numbers(alloc: Global, count: u32) -> Result<Vec<u32>, AllocError>
-    ensures len { IfOk result (λ numbers. length numbers.items ≡ count) }
-    ensures own { IfOk result (λ numbers. (j : ℕ) → j < count → slice_index numbers.items j ≡ j) }
-{
-    (0..count).collect(alloc)
 }

@@ -3,11 +3,11 @@ use Rattle.lru_cache.proofs.Told.{lines_at, dirty_at, dirty_none}
 use Rattle.lru_cache.proofs.Cache.is_dirty.Goals as goal
 
 pub find-requires : goal.find-requires
-find-requires c = omega (arith, lines_at _ _ _ _ _ _ c.self.invariant _ c.self.view_is)
+find-requires c = omega (arith, lines_at _ _ _ _ _ _ c.self.invariant.0 _ c.self.view_is)
 
 pub returns-in-Some-clause-value : goal.returns-in-Some-clause-value
 returns-in-Some-clause-value c =
-    rw (c.is_dirty.ensures.value, c.in-Some.ensures.slot) (sym (dirty_at _ _ _ _ _ _ c.self.invariant _ c.self.view_is c.args.line c.in-Some.ensures.held))
+    rw (c.is_dirty.ensures.value, c.in-Some.ensures.slot) (sym (dirty_at _ _ _ _ _ _ c.self.invariant.0 _ c.self.view_is c.args.line c.in-Some.ensures.held))
 
 pub returns-in-None-clause-value : goal.returns-in-None-clause-value
-returns-in-None-clause-value c = sym (dirty_none _ _ _ _ _ _ c.self.invariant _ c.self.view_is c.args.line c.in-None.ensures.none)
+returns-in-None-clause-value c = sym (dirty_none _ _ _ _ _ _ c.self.invariant.0 _ c.self.view_is c.args.line c.in-None.ensures.none)

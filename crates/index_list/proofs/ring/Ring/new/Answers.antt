@@ -1,8 +1,8 @@
 use Rattle.std.proofs.Common.{[]}
-use Rattle.index_list.proofs.Changes.{empty, closed}
+use Rattle.index_list.proofs.Changes.{closed}
 use Rattle.index_list.proofs.ring.Ring.new.Goals as goal
 
 pub invariant_of-result : goal.invariant_of-result
 invariant_of-result c =
-    let numbers = c.requires in
-    closed _ _ _ [] (rw (c.in_ok-next.ensures.items, c.in_ok-prev.ensures.items) (empty _ _ _ numbers.len numbers.len numbers.own numbers.own))
+    let linked = c.in_ok-links.ensures.linked in
+    closed _ _ _ _ [] _ _ linked.ring linked.few linked.next_room linked.prev_room
