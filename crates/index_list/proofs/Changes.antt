@@ -6,7 +6,7 @@ use Rattle.std.proofs.lemmas.List.{length-append}
 use Rattle.index_list.specs.Lists.{has, without, first, last, after, IsDistinct, NodeList}
 use Rattle.index_list.specs.Links.{next_on, prev_on, walk, spelled, IsRing, IsLinked}
 use Rattle.index_list.proofs.Members.{has-without, IsDistinct-without, IsDistinct-push, AllBelow-without, AllBelow-push, AllBelow-more, below_from_has, has_beyond, length-le_from_distinct}
-use Rattle.index_list.proofs.Steps.{next_in, prev_in, prev_end, next-without, prev-without, next-front, prev-front, next-back, prev-back, after-next, first-next, last-prev, has-next, next_moved, prev_moved, first_end}
+use Rattle.index_list.proofs.Steps.{next_in, prev_in, prev_end, next-without, prev-without, next-front, prev-front, next-back, prev-back, after-next, last-prev, has-next, next_moved, prev_moved, first_end}
 
 -- a walk finds the list that the next numbers spell
 walk_spelled : (next : List ℕ) (e p most : ℕ) (l : List ℕ) → length l ≤ most → IsDistinct (p ∷ l) → has e l ≡ false →
@@ -31,17 +31,6 @@ default : (l : List ℕ) (i d e : ℕ) → i < length l → slice_index_or l i d
 default (x ∷ xs) zero d e h = refl
 default [] i d e h = absurd (omega arith)
 default (x ∷ xs) (suc i) d e h = default xs i d e (omega arith)
-
--- with no nodes, the end alone is its own neighbour
-pub empty : IsRing 0 (0 ∷ []) (0 ∷ []) []
-empty = record {
-  next_len = refl;
-  prev_len = refl;
-  distinct = tt;
-  below = tt;
-  next_is = λ j s. let start : j ≡ 0 = omega arith in rw start refl;
-  prev_is = λ j s. let start : j ≡ 0 = omega arith in rw start refl;
-}
 
 -- two writes in a row, read
 two_set : (l : List ℕ) (i v k w j : ℕ) → i < length l → k < length l →
@@ -160,9 +149,6 @@ module _ (v : NodeList) (n : ℕ) (next prev : List ℕ) (o : Opened v n next pr
   -- what each reading call answers
   pub contains_is : (i : ℕ) → i < n → has i v.items ≡ not (eqb (next_on n n v.items i) i)
   contains_is i h = has-next n n i v.items (o.end_out, o.ring.distinct) o.end_out (grind (arith, nat_tests)) (grind (arith, nat_tests))
-
-  pub front_is : first v.items ≡ cond (eqb (next_on n n v.items n) n) None (Some (next_on n n v.items n))
-  front_is = first-next n n v.items o.end_out
 
   pub back_is : last v.items ≡ cond (eqb (prev_on n n v.items n) n) None (Some (prev_on n n v.items n))
   back_is = last-prev n v.items o.end_out

@@ -1,7 +1,7 @@
 -- How a change of the list changes what follows a number, and what stands before it.
 use Rattle.std.proofs.Common.{◌≡◌, ℕ, true, false, not, ◌||◌, eqb, Some, None, List, [], ◌∷◌, ◌++◌, cond, arith, refl}
 use Rattle.std.proofs.lemmas.Bool.Decides.{nat_tests}
-use Rattle.index_list.specs.Lists.{has, without, first, last, after, end_of, IsDistinct}
+use Rattle.index_list.specs.Lists.{has, without, last, after, end_of, IsDistinct}
 use Rattle.index_list.specs.Links.{next_on, prev_on}
 use Rattle.index_list.proofs.Members.{has-end_of}
 
@@ -79,11 +79,6 @@ pub after-next : (e p i : ℕ) (l : List ℕ) → has i l ≡ true → IsDistinc
 after-next e p i [] h d o = cc
 after-next e p i (x ∷ []) h d o = grind (arith, nat_tests)
 after-next e p i (x ∷ (y ∷ ys)) h d o = grind (arith, nat_tests, d.0, d.1.0, after-next e x i (y ∷ ys))
-
-pub first-next : (e p : ℕ) (l : List ℕ) → has e l ≡ false →
-    first l ≡ cond (eqb (next_on e p l p) e) None (Some (next_on e p l p))
-first-next e p [] o = grind (arith, nat_tests)
-first-next e p (x ∷ xs) o = grind (arith, nat_tests)
 
 pub last-prev : (e : ℕ) (l : List ℕ) → has e l ≡ false →
     last l ≡ cond (eqb (prev_on e e l e) e) None (Some (prev_on e e l e))

@@ -1,5 +1,5 @@
 -- How next and previous numbers spell a list: as a ring through one more number, its end, which stands in no list.
--- A node outside of the list is its own next and its own previous.
+-- A node outside of the list is its own next and its own previous, or has no numbers yet.
 use Rattle.std.specs.Prelude.{◌≡◌, ℕ, zero, suc, ◌+◌, ◌≤◌, ◌<◌, ◌==◌, if◌then◌else◌, List, [], ◌∷◌, length, slice_index, slice_index_or}
 use Rattle.index_list.specs.Lists.{IsDistinct, AllBelow, NodeList, IsSound}
 
@@ -32,7 +32,7 @@ pub record IsRing (n : ℕ) (next prev items : List ℕ) : Type 0 where
   pub next_is : (j : ℕ) → j ≤ n → slice_index next j ≡ next_on n n items j
   pub prev_is : (j : ℕ) → j ≤ n → slice_index prev j ≡ prev_on n n items j
 
--- next and prev spell the list, among the first nodes, as many as the end, and there is room for the links of all
+-- next and prev spell the list, among the nodes below the end, and there is room for the numbers of all nodes
 pub record IsLinked (nodes end : ℕ) (next prev items : List ℕ) (next_capacity prev_capacity : ℕ) : Type 0 where
   pub ring : IsRing end next prev items
   pub few : end ≤ nodes

@@ -5,3 +5,5 @@ pub mod Flattened
 pub mod Loops
 pub mod Maps
 pub mod Numbers
+pub mod Padding
+pub mod ZeroLines

@@ -7,12 +7,15 @@ ghost use Rattle.std.specs.Prelude.{◌≡◌};
 
 pub use bytes::{is_aligned, load_bytes, padded_bytes, store_bytes};
 pub use medium::Medium;
+pub use padded_lines::PaddedLines;
 pub use ram::{Ram, RamPlace};
 use std::alloc::AllocError;
 use thiserror::Error;
 
 mod bytes;
+mod data_bytes;
 mod medium;
+mod padded_lines;
 mod ram;
 
 /// The first address of the text region.

@@ -63,13 +63,6 @@ pub some_from : (o : Option (List ℕ)) (d : List ℕ) → is_some o ≡ true �
 some_from None d h = cc
 some_from (Some b) d h = refl
 
--- what was read of the copies, where the line has one
-pub read_there : (copies : List (Option (List ℕ))) (line : ℕ) (r : Option (List ℕ)) → r ≡ slice_index_or copies line r
-    → is_some (slice_index_or copies line None) ≡ true → slice_index_or copies line None ≡ r
-read_there [] line r e there = cc
-read_there (copy ∷ copies) zero r e there = sym e
-read_there (copy ∷ copies) (suc line) r e there = read_there copies line r e there
-
 left_from : (o : Option (List ℕ)) (d : List ℕ) → is_some o ≡ false → unwrap_or o d ≡ d
 left_from None d h = refl
 left_from (Some b) d h = cc

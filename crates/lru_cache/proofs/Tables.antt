@@ -1,6 +1,8 @@
 -- The tables of slots, as they are made and after each change.
-use Rattle.std.proofs.Common.{◌≡◌, ℕ, zero, suc, ◌+◌, ◌<◌, ◌≤◌, true, false, cond, eqb, List, [], ◌∷◌, ◌++◌, length, replicate, refl, sym, ap, ◌∙◌, arith, slice_index_or, slice_set}
+use Rattle.std.proofs.Common.{◌≡◌, ℕ, zero, suc, ◌+◌, ◌<◌, ◌≤◌, true, false, cond, eqb, inl, inr, List, [], ◌∷◌, ◌++◌, length, replicate, refl, sym, ap, ◌∙◌, arith, slice_index_or, slice_set}
 use Rattle.std.proofs.lemmas.Bool.Decides.{nat_tests}
+use Rattle.std.proofs.lemmas.Bool.{cases_eq, eq-eqb, ne_eqb}
+use Rattle.std.specs.Prelude.{◌==◌, if◌then◌else◌}
 use Rattle.std.proofs.lemmas.List.{length-append, length-set, length-replicate, get_or_past, get_or_default}
 use Rattle.lru_cache.specs.SlotMap.{SlotMap, IsSlotMap, IsTable, slot_at, line_in, has_slot, no_slots, with_added}
 use Rattle.lru_cache.specs.InSlots.{IsBySlot}
@@ -61,6 +63,17 @@ table_made most lines a b e f =
       line_room = e;
       free_room = f;
     }
+
+-- a slot is free where one was added if none was
+pub free_seen : (s t : SlotMap) → t ≡ (if s.free == 0 then with_added s else s) → 0 < t.free
+free_seen s t e = elim (cases_eq s.free 0) [
+  | inl none ↦
+      let is : t ≡ with_added s = rw (eq-eqb s.free 0 none) at e in
+      omega (arith, ap (λ (m : SlotMap). m.free) is)
+  | inr some ↦
+      let is : t ≡ s = rw (ne_eqb s.free 0 some) at e in
+      omega (arith, ap (λ (m : SlotMap). m.free) is, some)
+]
 
 -- the added slot has no line, as if it were past the end
 pub line_added : (s : SlotMap) (slot : ℕ) → line_in (with_added s) slot ≡ line_in s slot

@@ -51,7 +51,7 @@ pub record AreFree (s : SlotMap) (free : List ℕ) : Type 0 where
   pub empty : (k : ℕ) → k < length free → line_in s (slice_index_or free k 0) ≡ length s.slots
   pub apart : (j k : ℕ) → j < length free → k < length free → slice_index_or free j 0 ≡ slice_index_or free k 0 → j ≡ k
 
--- what holds of the tables of slots, and of the room that is reserved for those of a slot
+-- what holds of the tables of slots, and of the room that is reserved for all slots there can be
 pub record IsTable (lines : ℕ) (s : SlotMap) (free : List ℕ) (line_capacity free_capacity : ℕ) : Type 0 where
   pub bounded : lines ≡ length s.slots
   pub sound : IsSlotMap s

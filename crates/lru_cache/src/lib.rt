@@ -3,7 +3,7 @@
 //! The medium is lent to each call, and it is the same one each time. Addresses count its bytes from the first line's start.
 #![tactic(auto)]
 
-ghost use Rattle.std.specs.Prelude.{◌≡◌, ◌↔◌, ℕ, ◌<◌, ◌≤◌, ◌+◌, ◌*◌, ◌/◌, ◌%◌, vec_len, vec_capacity, List, Some, None, Option, true, false, length, replicate, slice_index, slice_index_or, slice_set, IfOk, IfErr, IfSome, IfNone};
+ghost use Rattle.std.specs.Prelude.{◌≡◌, ◌↔◌, ℕ, ◌<◌, ◌≤◌, ◌+◌, ◌*◌, ◌/◌, ◌%◌, ◌==◌, if◌then◌else◌, vec_len, vec_capacity, List, Some, None, Option, true, false, length, slice_index, slice_index_or, slice_set, IfOk, IfErr, IfSome, IfNone};
 ghost use Rattle.std.specs.Option.{option_or};
 ghost use Rattle.index_list.specs.Lists.{first, last, has};
 ghost use Rattle.word_bits.specs.Bytes.{loaded, stored};
@@ -11,6 +11,7 @@ ghost use Rattle.line_memory.specs.Lines.{line_at, line_bytes, IsMedium};
 ghost use Rattle.line_memory.specs.Memory.{IsWidth, loaded_from, stored_to};
 ghost use Rattle.lru_cache.specs.Order.{LineOrders, IsOrdered, marked_in, recent_in, resident_count, set_of, oldest_of_first};
 ghost use Rattle.lru_cache.specs.InSlots.{cache_of, IsInSlots, IsBySlot};
+ghost use Rattle.lru_cache.specs.SlotMap.{with_added};
 ghost use Rattle.lru_cache.specs.Cache.{CacheView, IsCache, IsOver, shown, is_resident, is_dirty, is_marked, is_leaving, victim, empty_cache, after_write_back, after_drop, after_eviction, after_forced, after_use, after_load, after_change, after_mark, after_mark_leaving, written_back, written_by_forced};
 
 use line_memory::{LINE_SIZE, Medium, MediumFault, load_bytes, store_bytes};
@@ -528,7 +529,7 @@ fn see_free(slots: &mut Slots, copies: &mut Vec<[u8; LINE_SIZE]>, leaving: &mut 
     requires room { slots.old.free ≡ 0 → length slots.old.lines < slots.old.most }
     requires copies { IsBySlot slots.old (vec_len copies.old) (vec_capacity copies.old) }
     requires flags { IsBySlot slots.old (vec_len leaving.old) (vec_capacity leaving.old) }
-    ensures free { 0 < slots.new.free }
+    ensures changed { slots.new ≡ (if slots.old.free == 0 then with_added slots.old else slots.old) }
     ensures tables { IsBySlot slots.new (vec_len copies.new) (vec_capacity copies.new) × IsBySlot slots.new (vec_len leaving.new) (vec_capacity leaving.new) }
     ensures stays { (capacity resident : ℕ) (orders : LineOrders) → IsInSlots capacity resident slots.old copies.old.items leaving.old.items orders →
         IsInSlots capacity resident slots.new copies.new.items leaving.new.items orders
@@ -546,7 +547,7 @@ fn add_slot(slots: &mut Slots, copies: &mut Vec<[u8; LINE_SIZE]>, leaving: &mut 
     requires room { length slots.old.lines < slots.old.most }
     requires copies { IsBySlot slots.old (vec_len copies.old) (vec_capacity copies.old) }
     requires flags { IsBySlot slots.old (vec_len leaving.old) (vec_capacity leaving.old) }
-    ensures free { 0 < slots.new.free }
+    ensures changed { slots.new ≡ with_added slots.old }
     ensures tables { IsBySlot slots.new (vec_len copies.new) (vec_capacity copies.new) × IsBySlot slots.new (vec_len leaving.new) (vec_capacity leaving.new) }
     ensures stays { (capacity resident : ℕ) (orders : LineOrders) → IsInSlots capacity resident slots.old copies.old.items leaving.old.items orders →
         IsInSlots capacity resident slots.new copies.new.items leaving.new.items orders

@@ -6,8 +6,8 @@ ghost use Rattle.lru_cache.specs.SlotMap.{IsSlotMap, slot_at, line_in, has_slot,
 use std::alloc::{AllocError, Global};
 use std::marker::Model;
 
-/// Slots numbered from 0, of which each has a line or is free. None is there at first, and those that are never added
-/// cost nothing: their room is reserved, so that no later call takes memory. No call searches.
+/// Slots numbered from 0, of which each has a line or is free. None is there at first. Room for all is reserved and not
+/// written, so that no later call takes memory. No call searches.
 #[derive(Drop)]
 pub struct Slots {
     most: u32,
@@ -34,7 +34,7 @@ impl Model for Slots {
 
 #[tactic(auto, using(crate::proofs::Tables::table_steps))]
 impl Slots {
-    /// No slots yet, and room for `most`, for `lines` lines.
+    /// No slots of so many lines yet, and room for `most` slots.
     pub fn new(alloc: Global, most: u32, lines: u32) -> Result<Slots, AllocError>
         ensures made { IfOk result (λ s. s ≡ no_slots most lines) }
         ensures sound { IfOk result (λ s. IsSlotMap s) }

@@ -1,17 +1,14 @@
 -- What a run on one image of a box says of the others of its part, and what cuts leave of these.
-use Rattle.std.proofs.Common.{◌≡◌, ◌⊎◌, ℕ, zero, suc, ◌+◌, ◌<◌, ◌≤◌, ◌==◌, Bool, true, false, List, [], ◌∷◌, ◌++◌, Option, Some, None, Result, Ok, Err, length, get_or, refl, sym, ap, subst, ◌∙◌, inl, inr, arith}
-use Rattle.std.specs.Prelude.{All, IfSome, take}
-use Rattle.std.specs.List.{AllByRecursion, AllZip, Contains}
-use Rattle.std.proofs.lemmas.Bool.Decides.{nat_tests}
+use Rattle.std.proofs.Common.{◌≡◌, ℕ, zero, suc, ◌+◌, ◌<◌, ◌≤◌, Bool, List, [], ◌∷◌, ◌++◌, Option, Result, Ok, length, get_or, refl, sym, ap, subst, ◌∙◌, arith}
+use Rattle.std.specs.Prelude.{IfSome, take}
+use Rattle.std.specs.List.{AllByRecursion}
 use Rattle.std.proofs.lemmas.List.{take_more}
 use Rattle.std.proofs.lemmas.List.Elements.{All-contains}
 use Rattle.line_memory.specs.Lines.{AreLines, line_at}
 use Rattle.program.specs.Sections.{Sections}
 use Rattle.store_trace.specs.Cut.{IsWithin}
-use Rattle.store_trace.specs.Floor.{floor}
 use Rattle.store_trace.specs.History.{at_moment, history, steps_of}
-use Rattle.store_trace.specs.Image.{image, line_after}
-use Rattle.store_trace.specs.Stores.{stores}
+use Rattle.store_trace.specs.Image.{image}
 use Rattle.store_trace.specs.declared.crash_model.step.PersistenceStep.{PersistenceStep}
 use Rattle.store_trace.specs.declared.crash_model.step.PersistenceStep.TheVariants as steps
 use Rattle.store_trace.specs.declared.event.Event.{Event}

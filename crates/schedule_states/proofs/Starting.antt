@@ -1,10 +1,11 @@
 -- The lines of a region have its bytes.
-use Rattle.std.proofs.Common.{◌≡◌, ℕ, zero, suc, ◌+◌, ◌-◌, ◌*◌, ◌/◌, ◌%◌, List, [], ◌∷◌, ◌++◌, length, slice_get, refl, sym, ap, ◌∙◌, inl, inr, arith}
+use Rattle.std.proofs.Common.{◌≡◌, ℕ, zero, suc, ◌+◌, ◌-◌, ◌*◌, ◌/◌, ◌%◌, ◌≤◌, List, [], ◌∷◌, ◌++◌, length, slice_get, refl, sym, ap, ◌∙◌, inl, inr, arith}
 use Rattle.std.proofs.lemmas.Bool.{cases_lt}
 use Rattle.std.proofs.lemmas.List.{length-append}
 use Rattle.std.specs.List.{concat}
 use Rattle.line_memory.specs.Lines.{AreLines, IsMedium, line_bytes}
 use Rattle.line_memory.specs.Regions.{padded}
+use Rattle.line_memory.proofs.Padding.{length-padded}
 use Rattle.schedule_states.proofs.Looking.{got_left, got_right}
 use Rattle.schedule_states.specs.StartLines.{AreOf}
 
@@ -40,12 +41,12 @@ joined_bytes (first ∷ lines) each offset =
           rw (line, place) (rest ∙ sym there ∙ ap (λ (i : ℕ). slice_get (first ++ concat lines) i) (sym at))
     ]
 
-pub lines_are : (lines : List (List ℕ)) (bytes all : List ℕ) (count : ℕ) → IsMedium lines → concat lines ≡ all → all ≡ padded bytes (64 * count) →
-    length all ≡ 64 * count → AreOf bytes count lines
-lines_are lines bytes all count medium joined is long =
+pub lines_are : (lines : List (List ℕ)) (bytes : List ℕ) (count : ℕ) → IsMedium lines → concat lines ≡ padded bytes (64 * count) → length bytes ≤ 64 * count →
+    AreOf bytes count lines
+lines_are lines bytes count medium joined fits =
     let whole = length_joined lines medium.each in
-    let same = ap (λ (b : List ℕ). length b) joined in record {
+    let same = ap (λ (b : List ℕ). length b) joined ∙ length-padded bytes (64 * count) fits in record {
       medium = medium;
       count = omega arith;
-      shown = λ offset. joined_bytes lines medium.each offset ∙ ap (λ (b : List ℕ). slice_get b offset) (joined ∙ is);
+      shown = λ offset. joined_bytes lines medium.each offset ∙ ap (λ (b : List ℕ). slice_get b offset) joined;
     }

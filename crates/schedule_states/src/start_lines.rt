@@ -1,14 +1,10 @@
 //! Memory at the start of a run, by lines of the address space.
 
-ghost use Rattle.std.specs.Prelude.{◌≡◌, ◌≤◌, ◌<◌, ◌+◌, ◌*◌, ◌^◌, ℕ, length, IfErr, IfNone, IfOk, IfSome};
+ghost use Rattle.std.specs.Prelude.{◌≡◌, ◌<◌, ◌+◌, ◌^◌, ℕ, length, IfErr, IfNone, IfOk, IfSome};
 ghost use Rattle.line_memory.specs.Lines.{IsMedium, line_at};
-ghost use Rattle.line_memory.specs.Regions.{padded};
 ghost use Rattle.schedule_states.specs.StartLines.{AreOf, LacksLine, ShowsLine, memory_at};
 
-use line_memory::{
-    DATA_BASE, DATA_SIZE, LINE_SIZE, Medium, MediumFault, PERSISTENT_BASE, TEXT_BASE, TEXT_SIZE,
-    padded_bytes,
-};
+use line_memory::{LINE_SIZE, Medium, MediumFault, PaddedLines};
 use program::Program;
 use std::alloc::Global;
 use std::marker::Model;
@@ -30,8 +26,8 @@ const DATA_LINES: u64 = 16_384;
 pub struct StartLines<'a> {
     program: &'a Program,
     medium: &'a Medium,
-    text: Medium,
-    data: Medium,
+    text: PaddedLines,
+    data: PaddedLines,
 }
 
 impl<'a> Model for StartLines<'a> {
@@ -62,8 +58,8 @@ impl<'a> StartLines<'a> {
         Ok(StartLines {
             program,
             medium,
-            text: lines_of(alloc, program.text_bytes(), TEXT_SIZE as usize)?,
-            data: lines_of(alloc, program.data_bytes(), DATA_SIZE as usize)?,
+            text: PaddedLines::new(alloc, program.text_bytes(), TEXT_LINES as u32)?,
+            data: PaddedLines::new(alloc, program.data_bytes(), DATA_LINES as u32)?,
         })
     }
 
@@ -107,21 +103,5 @@ impl<'a> StartLines<'a> {
         } else {
             None
         }
-    }
-}
-
-/// The lines of a region of so many bytes: these, and zeros past them.
-#[tactic(auto, using(crate::proofs::Starting::lines_are))]
-fn lines_of(alloc: Global, bytes: &[u8], size: usize) -> Result<Medium, MediumFault>
-    requires fits { length bytes.now ≤ size }
-    requires least { 32768 ≤ size }
-    requires most { size ≤ 1048576 }
-    ensures ok { (count : ℕ) → size ≡ 64 * count → IfOk result (AreOf bytes.now count) }
-    ensures err { IfErr result (λ fault. fault ≡ MediumFault.Memory) }
-{
-    let all = padded_bytes(alloc, bytes, size)?;
-    match Medium::from_bytes(alloc, &all) {
-        Ok(lines) => Ok(lines),
-        Err(_) => Err(MediumFault::Memory),
     }
 }

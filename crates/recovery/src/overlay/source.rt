@@ -3,7 +3,7 @@
 ghost use Rattle.std.specs.Prelude.{◌≡◌, ◌<◌, length};
 ghost use Rattle.line_memory.specs.Lines.{line_at, IsMedium};
 
-use line_memory::{LINE_SIZE, Medium};
+use line_memory::{LINE_SIZE, Medium, PaddedLines};
 use verdict::{CutImage, Images};
 
 /// The lines of a medium, which no call changes.
@@ -30,6 +30,18 @@ impl Source for Medium {
 
     fn lines(&self) -> u32 {
         Medium::lines(self)
+    }
+
+    fn line(&self, line: u32) -> &[u8; LINE_SIZE] {
+        self.read_line(line)
+    }
+}
+
+impl Source for PaddedLines {
+    ghost medium = { λ m. m };
+
+    fn lines(&self) -> u32 {
+        PaddedLines::lines(self)
     }
 
     fn line(&self, line: u32) -> &[u8; LINE_SIZE] {

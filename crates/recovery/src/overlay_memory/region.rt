@@ -1,15 +1,13 @@
 //! Text, or data: a region whose bytes stay as they are under copies of the lines that were stored to.
 
 ghost use Rattle.std.specs.Prelude.{◌≡◌, ◌*◌, ◌%◌, ◌<◌, ◌≤◌, ℕ, Some, length, slice_get, IfOk, IfErr, OnOk, OnErr};
-ghost use Rattle.line_memory.specs.Lines.{IsMedium, line_bytes};
-ghost use Rattle.std.specs.List.{concat};
+ghost use Rattle.line_memory.specs.Lines.{line_bytes};
 ghost use Rattle.line_memory.specs.Memory.{IsWidth, loaded_from, stored_to};
-ghost use Rattle.line_memory.specs.Regions.{padded};
 ghost use Rattle.line_memory.specs.declared.MediumFault.{MediumFault};
 ghost use Rattle.recovery.specs.Regions.{IsKept, IsRegion, bytes_of};
 
 use crate::overlay::Held;
-use line_memory::{LINE_SIZE, Medium, MediumFault, padded_bytes};
+use line_memory::{LINE_SIZE, MediumFault, PaddedLines};
 use std::alloc::{AllocError, Global};
 use std::marker::Model;
 
@@ -17,7 +15,7 @@ use std::marker::Model;
 /// region's first.
 #[derive(Drop)]
 pub struct Region {
-    start: Medium,
+    start: PaddedLines,
     held: Held,
 }
 
@@ -35,7 +33,6 @@ impl Model for Region {
 
 impl Region {
     /// A region of `size` bytes, 32,768 to 1,048,576 and whole lines: these bytes, and zeros past them. The fault is Memory.
-    #[tactic(auto, using(crate::proofs::Starting::region_starts, crate::proofs::Starting::lines_counted))]
     pub fn new(alloc: Global, bytes: &[u8], size: u32) -> Result<Region, MediumFault>
         requires fits { length bytes.now ≤ size }
         requires least { 32768 ≤ size }
@@ -45,9 +42,9 @@ impl Region {
         ensures start { IfOk result (λ region. bytes_of region ≡ line_bytes region.start) }
         ensures err { IfErr result (λ fault. fault ≡ MediumFault.Memory) }
     {
-        let all = padded_bytes(alloc, bytes, size as usize)?;
-        let start = lines_of(alloc, &all)?;
-        let held = Held::new(alloc, size / LINE_SIZE as u32)?;
+        let lines = size / LINE_SIZE as u32;
+        let start = PaddedLines::new(alloc, bytes, lines)?;
+        let held = Held::new(alloc, lines)?;
         Ok(Region { start, held })
     }
 
@@ -102,20 +99,5 @@ impl Region {
         ensures kept { IsKept self.old self.new }
     {
         self.held.set_back();
-    }
-}
-
-/// The medium of whole lines.
-fn lines_of(alloc: Global, bytes: &[u8]) -> Result<Medium, MediumFault>
-    requires least { 32768 ≤ length bytes.now }
-    requires most { length bytes.now ≤ 1048576 }
-    requires whole { length bytes.now % 64 ≡ 0 }
-    ensures ok { IfOk result (λ lines. concat lines ≡ bytes.now) }
-    ensures medium { IfOk result (λ lines. IsMedium lines) }
-    ensures err { IfErr result (λ fault. fault ≡ MediumFault.Memory) }
-{
-    match Medium::from_bytes(alloc, bytes) {
-        Ok(lines) => Ok(lines),
-        Err(_) => Err(MediumFault::Memory),
     }
 }

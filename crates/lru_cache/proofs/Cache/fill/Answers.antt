@@ -4,7 +4,7 @@ use Rattle.lru_cache.specs.SlotMap.{SlotMap}
 use Rattle.lru_cache.specs.Order.{resident_count}
 use Rattle.lru_cache.specs.Cache.{CacheView}
 use Rattle.lru_cache.proofs.InLines.{filled_is}
-use Rattle.lru_cache.proofs.Tables.{by_slots}
+use Rattle.lru_cache.proofs.Tables.{by_slots, free_seen}
 use Rattle.lru_cache.proofs.Told.{lines_at, resident_at, count_at, capacity_at}
 use Rattle.lru_cache.proofs.Stays.{in_fill, room_to_add}
 use Rattle.lru_cache.proofs.Cache.fill.Goals as goal
@@ -25,6 +25,9 @@ take-slot-requires-clause-none c =
     let h = (c.see_free.ensures.stays _ _ _ c.self.invariant.0).0 in
     let e = (c.see_free.ensures.stays _ _ _ c.self.invariant.0).1 ∙ c.self.view_is in
     sym (resident_at _ _ _ _ _ _ h _ e c.args.line) ∙ c.requires.absent
+
+pub take-slot-requires-clause-free : goal.take-slot-requires-clause-free
+take-slot-requires-clause-free c = free_seen c.self.inside.slots c.see_free.new.slots c.see_free.ensures.changed
 
 pub index_mut-requires : goal.index_mut-requires
 index_mut-requires c =
@@ -57,7 +60,7 @@ invariant_of-self c =
     let e = (c.see_free.ensures.stays _ _ _ c.self.invariant.0).1 ∙ c.self.view_is in (
       rw (c.note_use.ensures.changed, c.take-slot.ensures.changed)
           (in_fill _ _ _ _ _ _ h c.args.line c.take-slot.result c.args.bytes (omega (arith, lines_at _ _ _ _ _ _ h _ e)) (sym (resident_at _ _ _ _ _ _ h _ e c.args.line) ∙ c.requires.absent)
-          c.take-slot.ensures.below c.take-slot.ensures.was_free (rw c.take-slot.ensures.changed at c.take-slot.ensures.sound) c.see_free.ensures.free
+          c.take-slot.ensures.below c.take-slot.ensures.was_free (rw c.take-slot.ensures.changed at c.take-slot.ensures.sound) (free_seen c.self.inside.slots c.see_free.new.slots c.see_free.ensures.changed)
           (omega (arith, ap (λ (w : CacheView). resident_count w.orders) e, capacity_at _ _ _ _ _ _ h _ e)) c.requires.whole),
       (by_slots s c.take-slot.new.self _ _ wide most c.see_free.ensures.tables.0, by_slots s c.take-slot.new.self _ _ wide most c.see_free.ensures.tables.1),
     )

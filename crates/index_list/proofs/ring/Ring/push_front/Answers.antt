@@ -13,10 +13,10 @@ index_mut-requires-3 c =
 pub invariant_of-self : goal.invariant_of-self
 invariant_of-self c =
     let o : Opened c.args.self.now c.reach.new.self.end c.reach.new.self.next.items c.reach.new.self.prev.items = opened _ _ _ _ _ _ _ _ c.self.view_is c.reach.ensures.linked in
-    closed _ _ _ _ _ _ _ (pushed_front _ _ _ _ o _ _ c.reach.ensures.there c.requires.fresh (read_next _ _ _ _ o _ _ (omega arith) c.index-following.ensures))
+    closed _ _ _ _ _ _ _ (pushed_front _ _ _ _ o _ _ (omega (arith, c.reach.ensures.end)) c.requires.fresh (read_next _ _ _ _ o _ _ (omega arith) c.index-following.ensures))
     (omega (arith, c.reach.ensures.nodes, c.reach.ensures.linked.few)) (omega (arith, c.reach.ensures.nodes, c.reach.ensures.linked.next_room)) (omega (arith, c.reach.ensures.nodes, c.reach.ensures.linked.prev_room))
 
 pub returns : goal.returns
 returns c =
     let o : Opened c.args.self.now c.reach.new.self.end c.reach.new.self.next.items c.reach.new.self.prev.items = opened _ _ _ _ _ _ _ _ c.self.view_is c.reach.ensures.linked in
-    viewed c.args.self.now _ _ _ _ _ (omega (arith, c.reach.ensures.nodes, ap (λ (v : NodeList). v.nodes) c.self.view_is)) (pushed_front _ _ _ _ o _ _ c.reach.ensures.there c.requires.fresh (read_next _ _ _ _ o _ _ (omega arith) c.index-following.ensures))
+    viewed c.args.self.now _ _ _ _ _ (omega (arith, c.reach.ensures.nodes, ap (λ (v : NodeList). v.nodes) c.self.view_is)) (pushed_front _ _ _ _ o _ _ (omega (arith, c.reach.ensures.end)) c.requires.fresh (read_next _ _ _ _ o _ _ (omega arith) c.index-following.ensures))
