@@ -261,9 +261,10 @@ text_peeked ram sound address at e fits byte read =
     rw e (sym (text_byte ram at (omega arith) ∙ same))
 
 pub data_peeked : (ram : RamView) → IsRam ram → (address at : ℕ) → address ≡ DATA_BASE + at → at + 1 ≤ DATA_SIZE
-    → (byte : ℕ) → byte ≡ slice_index ram.bytes at → Some byte ≡ ram_bytes ram address
+    → (byte : ℕ) → byte ≡ slice_index_or ram.bytes at byte → Some byte ≡ ram_bytes ram address
 data_peeked ram sound address at e fits byte read =
-    rw (e, read) (sym (data_byte ram at (omega arith) ∙ slice_get-get_or ram.bytes at 0 (omega (arith, sound.bytes))))
+    let same = slice_get_read ram.bytes (length ram.bytes) at byte refl (omega (arith, sound.bytes)) read in
+    rw e (sym (data_byte ram at (omega arith) ∙ same))
 
 unread : (memory : Memory) (address : ℕ) (fault : MemFault) (found : Option ℕ) → memory address ≡ found
     → fault_of memory address 1 ≡ Some fault → memory address ≡ None

@@ -40,7 +40,7 @@ get-bytes i (suc n) v (suc j) h =
     let e : i + suc j ≡ suc i + j = omega arith in
     rw e (get-bytes (suc i) n v j (omega arith))
 
-pub length-bytes : (i n v : ℕ) → length (bytes_low_first i n v) ≡ n
+length-bytes : (i n v : ℕ) → length (bytes_low_first i n v) ≡ n
 length-bytes i zero v = refl
 length-bytes i (suc n) v = ap suc (length-bytes (suc i) n v)
 

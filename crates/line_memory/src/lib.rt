@@ -13,7 +13,6 @@ use std::alloc::AllocError;
 use thiserror::Error;
 
 mod bytes;
-mod data_bytes;
 mod medium;
 mod padded_lines;
 mod ram;

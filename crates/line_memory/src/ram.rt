@@ -6,7 +6,6 @@ ghost use Rattle.line_memory.specs.Regions.{RamView, IsRam, padded, ram_bytes};
 ghost use Rattle.line_memory.specs.Places.{IsPlace, IsRefused, IsWithin, address_of};
 
 use crate::bytes::{is_aligned, load_bytes, padded_bytes, store_bytes};
-use crate::data_bytes::DataBytes;
 use crate::{DATA_BASE, DATA_SIZE, MediumFault, MemFault, TEXT_BASE, TEXT_SIZE};
 use std::alloc::Global;
 use std::marker::Model;
@@ -15,7 +14,7 @@ use std::marker::Model;
 #[derive(Drop)]
 pub struct Ram {
     text: Vec<u8>,
-    bytes: DataBytes,
+    bytes: Vec<u8>,
 }
 
 impl Model for Ram {
@@ -23,9 +22,9 @@ impl Model for Ram {
 
     ghost Value = { RamView };
 
-    ghost view = { λ r. record { text = r.text.items; bytes = r.bytes } };
+    ghost view = { λ r. record { text = r.text.items; bytes = r.bytes.items } };
 
-    ghost invariant = { λ r. IsRam (record { text = r.text.items; bytes = r.bytes }) };
+    ghost invariant = { λ r. IsRam (record { text = r.text.items; bytes = r.bytes.items }) };
 }
 
 /// Where an access to text or data begins, counted in bytes from the base of its region.
@@ -48,7 +47,7 @@ impl Ram {
         ensures err { IfErr result (λ fault. fault ≡ MediumFault.Memory) }
     {
         let text = padded_bytes(alloc, text, TEXT_SIZE as usize)?;
-        let bytes = DataBytes::new(alloc, data)?;
+        let bytes = padded_bytes(alloc, data, DATA_SIZE as usize)?;
         Ok(Ram { text, bytes })
     }
 
@@ -63,11 +62,12 @@ impl Ram {
         ensures err { IfErr result (λ fault. fault_of (ram_bytes self.now) addr width ≡ Some fault) }
     {
         let text_end = TEXT_BASE + self.text.len() as u64;
+        let data_end = DATA_BASE + self.bytes.len() as u64;
         if !is_aligned(addr, width) {
             Err(MemFault::Misaligned)
         } else if (TEXT_BASE..text_end).contains(&addr) {
             Ok(RamPlace::Text((addr - TEXT_BASE) as usize))
-        } else if (DATA_BASE..DATA_BASE + DATA_SIZE).contains(&addr) {
+        } else if (DATA_BASE..data_end).contains(&addr) {
             Ok(RamPlace::Data((addr - DATA_BASE) as usize))
         } else {
             Err(MemFault::Outside)
@@ -83,7 +83,7 @@ impl Ram {
     {
         match place {
             RamPlace::Text(at) => load_bytes(&self.text, at, width as usize),
-            RamPlace::Data(at) => self.bytes.load(at, width as usize),
+            RamPlace::Data(at) => load_bytes(&self.bytes, at, width as usize),
         }
     }
 
@@ -96,7 +96,7 @@ impl Ram {
     {
         match place {
             RamPlace::Text(at) => store_bytes(&mut self.text, at, width as usize, value),
-            RamPlace::Data(at) => self.bytes.store(at, width as usize, value),
+            RamPlace::Data(at) => store_bytes(&mut self.bytes, at, width as usize, value),
         }
     }
 
@@ -132,7 +132,7 @@ impl Ram {
     {
         match self.place(addr, 1) {
             Ok(RamPlace::Text(at)) => Some(self.text[at]),
-            Ok(RamPlace::Data(at)) => Some(self.bytes.byte(at)),
+            Ok(RamPlace::Data(at)) => Some(self.bytes[at]),
             Err(_) => None,
         }
     }

@@ -10,4 +10,4 @@ returns-in-Ok-Text c =
 pub returns-in-Ok-Data : goal.returns-in-Ok-Data
 returns-in-Ok-Data c =
     let found = rw c.in-Ok-Data.field-0-is at c.in-Ok-Data.ensures.ok in
-    rw (← c.self.view_is) (data_peeked _ c.self.invariant c.args.addr c.in-Ok-Data.at found.1 found.2 _ c.byte.ensures.value)
+    rw (← c.self.view_is) (data_peeked _ c.self.invariant c.args.addr c.in-Ok-Data.at found.1 found.2 _ c.index-in-Ok-Data.ensures)

@@ -14,4 +14,12 @@ returns-in-Text-clause-bytes c =
 pub returns-in-Data-clause-bytes : goal.returns-in-Data-clause-bytes
 returns-in-Data-clause-bytes c =
     let within = rw c.in-Data.is at c.requires.within in
-    rw (← c.self.view_is, c.in-Data.is, c.store.ensures.bytes) (data_stored _ c.self.invariant _ c.args.width c.in-Data.at c.args.value refl within)
+    let long : length c.store_bytes-in-Data.new.bytes ≡ c.self.inside.bytes.len = omega arith in
+    rw (
+      ← c.self.view_is,
+      c.in-Data.is,
+      take_at c.store_bytes-in-Data.new.bytes _ _ long,
+      c.store_bytes-in-Data.ensures,
+      c.deref_mut-in-Data.ensures.value,
+    )
+    (data_stored _ c.self.invariant _ c.args.width c.in-Data.at c.args.value refl within)
